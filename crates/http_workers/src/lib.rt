@@ -6,6 +6,7 @@ mod fault;
 mod floor;
 mod job;
 mod serve;
+mod shop;
 
 pub use arrivals::Arrivals;
 pub use fault::HttpFault;

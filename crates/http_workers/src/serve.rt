@@ -1,112 +1,51 @@
 //! One worker a connection.
 
-ghost use Rattle.std.specs.Prelude.{◌≡◌, ◌<◌, false, IfOk, IfNone};
+ghost use Rattle.std.specs.Prelude.{◌≡◌, ◌+◌, ◌<◌, false, if◌then◌else◌, IfErr, IfOk, IfNone, vec_len};
+ghost use Rattle.http_workers.specs.Faults.{taken_before};
+ghost use Rattle.http_workers.specs.declared.fault.HttpFault.TheVariants.{OutOfMemory, NoThread};
 
 use crate::arrivals::Arrivals;
-use crate::fault::HttpFault;
-use crate::floor::Floor;
+use crate::fault::{HttpFault, taken_before};
 use crate::job::Job;
+use crate::shop::{Shop, start};
 use http_door::{Bench, Gate, Inlet, Outlet};
 use std::alloc::Global;
-use std::sync::{Condvar, Mutex, Wait};
+use std::marker::Brand;
+use std::sync::ledger::Blank;
+use std::sync::{Wait, ledger};
 use std::thread;
 use std::thread::{Scope, Threads};
 
-/// What the acceptor and the workers share.
-#[derive(Drop)]
-struct Shop<I: Inlet + Drop, O: Outlet + Drop, B: Bench + Drop> {
-    floor: Mutex<Floor<Job<I, O, B>, B>>,
-    left: Condvar,
-}
+/// One part for each worker, and one for the floor.
+const PARTS: u64 = 1 << 32;
 
-/// What a worker does: it serves one connection, and returns the bench.
-fn work<I: Inlet + Drop, O: Outlet + Drop, B: Bench + Drop, G: Gate, R: Wait>(
-    rt: &R,
-    alloc: Global,
-    shop: &Shop<I, O, B>,
-    gate: &G,
-) {
-    let job = shop.floor.lock(rt).take();
-    if let Some(job) = job {
-        let bench = job.serve(alloc, gate);
-        shop.floor.lock(rt).leave(bench);
-    }
-    shop.left.notify_all();
-}
-
-/// Starts a worker, and says whether it did.
-fn start<
-    's,
-    E,
-    I: Inlet + Send + Drop + 's,
-    O: Outlet + Send + Drop + 's,
-    B: Bench + Send + Drop + 's,
-    G: Gate + Sync + 's,
-    R: Threads + Wait + Sync + 's,
->(scope: &Scope<'s, E>, rt: &'s R, alloc: Global, shop: &'s Shop<I, O, B>, gate: &'s G) -> bool {
-    scope.spawn(move || work(rt, alloc, shop, gate)).is_ok()
-}
-
-/// Returns the bench of a connection that no worker serves to the floor.
-fn give_back<I: Inlet + Drop, O: Outlet + Drop, B: Bench + Drop, R: Wait>(
-    rt: &R,
-    shop: &Shop<I, O, B>,
-    job: Job<I, O, B>,
-) {
-    let Job {
-        inlet,
-        outlet,
-        bench,
-    } = job;
-    drop(inlet);
-    drop(outlet);
-    shop.floor.lock(rt).leave(bench);
-}
-
-/// Has a worker of its own serve a connection, once one was admitted. Where none starts,
-/// one bench is returned unused.
+/// Has a worker of its own serve a connection. Where none starts, its bench is returned unused.
 fn employ<
     's,
     E,
     I: Inlet + Send + Drop + 's,
     O: Outlet + Send + Drop + 's,
-    B: Bench + Send + Drop + 's,
+    B: Bench + Send + 's,
+    L: ledger::Ledger + Send + Sync + 's,
     G: Gate + Sync + 's,
     R: Threads + Wait + Sync + 's,
 >(
     scope: &Scope<'s, E>,
     rt: &'s R,
     alloc: Global,
-    shop: &'s Shop<I, O, B>,
+    shop: &'s Shop<I, O, B, L>,
     gate: &'s G,
-    job: Job<I, O, B>,
-) -> Result<(), HttpFault> {
-    let put = shop.floor.lock(rt).put(job);
-    if let Err(refused) = put {
-        give_back(rt, shop, refused.value);
-        return Err(HttpFault::OutOfMemory);
-    }
-    if start(scope, rt, alloc, shop, gate) {
-        return Ok(());
-    }
-    let job = shop.floor.lock(rt).take();
-    if let Some(job) = job {
-        give_back(rt, shop, job);
-    }
-    Err(HttpFault::NoThread)
-}
-
-/// Waits until fewer workers run than may, and admits one more.
-fn admit<I: Inlet + Drop, O: Outlet + Drop, B: Bench + Drop, R: Wait>(
-    rt: &R,
-    shop: &Shop<I, O, B>,
-) -> Result<bool, HttpFault> {
-    let mut floor = shop
-        .left
-        .wait_while(rt, shop.floor.lock(rt), |f| f.is_full());
-    match floor.admit() {
-        Ok(admitted) => Ok(admitted),
-        Err(_) => Err(HttpFault::OutOfMemory),
+    job: Job<I, O, B, L>,
+) -> Result<(), HttpFault>
+    ensures { IfErr result (λ fault. fault ≡ NoThread) }
+{
+    shop.put(rt, job);
+    match start(scope, rt, alloc, shop, gate) {
+        Ok(()) => Ok(()),
+        Err(fault) => {
+            shop.give_back(rt);
+            Err(fault)
+        }
     }
 }
 
@@ -116,7 +55,8 @@ fn accept<
     E,
     I: Inlet + Send + Drop + 's,
     O: Outlet + Send + Drop + 's,
-    B: Bench + Send + Drop + 's,
+    B: Bench + Send + 's,
+    L: ledger::Ledger + Send + Sync + 's,
     A: Arrivals<In = I, Out = O, Seat = B>,
     G: Gate + Sync + 's,
     R: Threads + Wait + Sync + 's,
@@ -125,23 +65,33 @@ fn accept<
     rt: &'s R,
     alloc: Global,
     arrivals: &mut A,
-    shop: &'s Shop<I, O, B>,
+    shop: &'s Shop<I, O, B, L>,
     gate: &'s G,
 ) -> Result<bool, HttpFault>
-    ensures { IfOk result (λ more. more ≡ false → A.ended arrivals.new) }
+    ensures end { IfOk result (λ more. more ≡ false → A.ended arrivals.new) }
+    ensures taken { IfOk result
+        (λ more. A.taken arrivals.new ≡ A.taken arrivals.old + (if more then 1 else 0)) }
+    ensures refused { IfErr result
+        (λ fault. A.taken arrivals.new ≡ A.taken arrivals.old + taken_before fault) }
+    ensures untouched { IfErr result
+        (λ fault. fault ≡ OutOfMemory → arrivals.new ≡ arrivals.old) }
 {
-    match admit(rt, shop) {
-        Ok(true) => {}
-        Ok(false) => return Ok(true),
+    let ticket = match shop.admit(rt) {
+        Ok(ticket) => ticket,
         Err(fault) => return Err(fault),
-    }
-    let Some((inlet, outlet, bench)) = arrivals.next() else {
-        return Ok(false);
+    };
+    let (inlet, outlet, bench) = match arrivals.next() {
+        Some(connection) => connection,
+        None => {
+            shop.withdraw(rt, ticket);
+            return Ok(false);
+        }
     };
     let job = Job {
         inlet,
         outlet,
         bench,
+        ticket,
     };
     match employ(scope, rt, alloc, shop, gate, job) {
         Ok(()) => Ok(true),
@@ -149,13 +99,15 @@ fn accept<
     }
 }
 
-/// Has all connections served, until no more come or a worker is missing.
+/// Has all connections served, until no more come or memory or a thread is refused.
+/// It returns how many it took, and that fault.
 fn accept_all<
     's,
     E,
     I: Inlet + Send + Drop + 's,
     O: Outlet + Send + Drop + 's,
-    B: Bench + Send + Drop + 's,
+    B: Bench + Send + 's,
+    L: ledger::Ledger + Send + Sync + 's,
     A: Arrivals<In = I, Out = O, Seat = B>,
     G: Gate + Sync + 's,
     R: Threads + Wait + Sync + 's,
@@ -164,29 +116,35 @@ fn accept_all<
     rt: &'s R,
     alloc: Global,
     arrivals: &mut A,
-    shop: &'s Shop<I, O, B>,
+    shop: &'s Shop<I, O, B, L>,
     gate: &'s G,
-) -> Option<HttpFault>
-    ensures { IfNone result (A.ended arrivals.new) }
+) -> (usize, Option<HttpFault>)
+    ensures end { IfNone result.1 (A.ended arrivals.new) }
+    ensures taken { A.taken arrivals.new ≡ A.taken arrivals.old + result.0 }
 {
+    let mut taken = 0usize;
     for _ in rt.forever() {
+        let Some(more) = taken.checked_add(1) else {
+            return (taken, Some(HttpFault::OutOfMemory));
+        };
         match accept(scope, rt, alloc, arrivals, shop, gate) {
-            Ok(true) => {}
-            Ok(false) => return None,
-            Err(fault) => return Some(fault),
+            Ok(true) => taken = more,
+            Ok(false) => return (taken, None),
+            Err(fault) => return (taken + taken_before(fault), Some(fault)),
         }
     }
     unreachable!()
 }
 
-/// Has all connections served, until no more come, or a worker is missing: then the arrivals are told
-/// so.
-fn accept_or_give_up<
+/// Has all connections served, until no more come, or memory or a thread is refused: then the
+/// arrivals are told so. It returns the benches of those that it took, once all have ended.
+fn serve_within<
     's,
     E,
     I: Inlet + Send + Drop + 's,
     O: Outlet + Send + Drop + 's,
-    B: Bench + Send + Drop + 's,
+    B: Bench + Send + 's,
+    L: ledger::Ledger + Send + Sync + 's,
     A: Arrivals<In = I, Out = O, Seat = B>,
     G: Gate + Sync + 's,
     R: Threads + Wait + Sync + 's,
@@ -195,54 +153,89 @@ fn accept_or_give_up<
     rt: &'s R,
     alloc: Global,
     arrivals: &mut A,
-    shop: &'s Shop<I, O, B>,
+    shop: &'s Shop<I, O, B, L>,
     gate: &'s G,
-) -> Option<HttpFault>
-    ensures { IfNone result (A.ended arrivals.new) }
+) -> (Vec<B>, Option<HttpFault>)
+    ensures end { IfNone result.1 (A.ended arrivals.new) }
+    ensures returned { A.taken arrivals.new ≡ A.taken arrivals.old + vec_len result.0 }
 {
-    match accept_all(scope, rt, alloc, arrivals, shop, gate) {
-        None => None,
-        Some(fault) => {
-            arrivals.give_up(fault);
-            Some(fault)
-        }
+    let (taken, fault) = accept_all(scope, rt, alloc, arrivals, shop, gate);
+    if let Some(fault) = fault {
+        arrivals.give_up(fault);
     }
+    (shop.collect(rt, alloc, taken), fault)
 }
 
 /// Serves all connections in one scope, and returns once every worker has ended.
 fn serve_shop<
     I: Inlet + Send + Drop,
     O: Outlet + Send + Drop,
-    B: Bench + Send + Drop,
+    B: Bench + Send,
+    L: ledger::Ledger + Send + Sync,
     A: Arrivals<In = I, Out = O, Seat = B>,
     G: Gate + Sync,
     R: Threads + Wait + Sync,
->(rt: &R, alloc: Global, arrivals: &mut A, shop: &Shop<I, O, B>, gate: &G) -> Option<HttpFault>
-    ensures { IfNone result (A.ended arrivals.new) }
+>(
+    rt: &R,
+    alloc: Global,
+    arrivals: &mut A,
+    shop: &Shop<I, O, B, L>,
+    gate: &G,
+) -> (Vec<B>, Option<HttpFault>)
+    ensures end { IfNone result.1 (A.ended arrivals.new) }
+    ensures returned { A.taken arrivals.new ≡ A.taken arrivals.old + vec_len result.0 }
 {
-    let (fault, _arrivals) = thread::scope(
+    let (benches, fault, _arrivals) = thread::scope(
         thread::scope_env(),
         rt,
-        |scope| -> (Option<HttpFault>, &mut A)
-            ensures same { result.1.ghost_name ≡ arrivals.entry.ghost_name }
-            ensures ended { IfNone result.0 (A.ended result.1.now) }
+        |scope| -> (Vec<B>, Option<HttpFault>, &mut A)
+            ensures same { result.2.ghost_name ≡ arrivals.entry.ghost_name }
+            ensures end { IfNone result.1 (A.ended result.2.now) }
+            ensures returned { A.taken result.2.now
+                ≡ A.taken arrivals.entry.now + vec_len result.0 }
         {
-            let fault = accept_or_give_up(scope, rt, alloc, &mut *arrivals, shop, gate);
-            (fault, arrivals)
+            let (benches, fault) = serve_within(scope, rt, alloc, &mut *arrivals, shop, gate);
+            (benches, fault, arrivals)
         },
     );
-    fault
+    (benches, fault)
+}
+
+/// The same, with the count of workers that the blank begins.
+fn serve_counted<
+    L: ledger::Ledger + Send + Sync,
+    A: Arrivals,
+    G: Gate + Sync,
+    R: Threads + Wait + Sync,
+>(
+    rt: &R,
+    alloc: Global,
+    blank: Blank,
+    workers: u32,
+    arrivals: &mut A,
+    gate: &G,
+) -> (Vec<A::Seat>, Option<HttpFault>)
+where
+    A::Seat: Drop,
+    requires name { blank.name ≡ L.name }
+    requires parts { (blank.parts ≡ L.parts) × (blank.parts ≡ 4294967296) }
+    ensures end { IfNone result.1 (A.ended arrivals.new) }
+    ensures returned { A.taken arrivals.new ≡ A.taken arrivals.old + vec_len result.0 }
+{
+    let shop: Shop<A::In, A::Out, A::Seat, L> = Shop::new(alloc, workers, blank);
+    serve_shop(rt, alloc, arrivals, &shop, gate)
 }
 
 /// Serves each connection by a worker of its own, at most `workers` at once, and waits for the next
-/// until one comes. It returns once every worker has ended, with the benches of all connections that it
-/// took from the arrivals, in no order. Room for a bench is reserved before its connection is
-/// taken, so none is lost for want of memory. A fault, `H8 OutOfMemory` or `H9 NoThread`, ends the
-/// accepting, and the arrivals give up the connections that they gave: workers that run go on to
-/// the ends of these; the connection that no
-/// worker was found for is closed unanswered, and its bench is returned too. A connection that
-/// breaks off (`H7 LinkFault`, `H8 OutOfMemory`) ends alone. No contract can say which benches are
-/// returned or that a worker gets on, since nothing but its type is known of what workers share.
+/// until one comes. It returns once every worker has ended, with the benches of the connections
+/// that it took from the arrivals, in no order: as many benches as connections, and since nothing
+/// here may drop a bench, those of each. Room for a bench is reserved before its connection is
+/// taken, so none is lost for want of memory. A fault ends the accepting, and the arrivals give up
+/// the connections that they gave: workers that run go on to the ends of these. With
+/// `H8 OutOfMemory` no connection was taken for which there was no memory. With `H9 NoThread` one
+/// was for which no worker was found: it is closed unanswered, and its bench is returned too. A
+/// connection that breaks off (`H7 LinkFault`, `H8 OutOfMemory`) ends alone. No contract can say
+/// that a worker gets on, since nothing but its type is known of what workers share.
 pub fn serve_all<A: Arrivals, G: Gate + Sync, R: Threads + Wait + Sync>(
     rt: &R,
     alloc: Global,
@@ -250,15 +243,12 @@ pub fn serve_all<A: Arrivals, G: Gate + Sync, R: Threads + Wait + Sync>(
     arrivals: &mut A,
     gate: &G,
 ) -> (Vec<A::Seat>, Option<HttpFault>)
+where
+    A::Seat: Drop,
     requires { 0 < workers }
-    ensures { IfNone result.1 (A.ended arrivals.new) }
+    ensures end { IfNone result.1 (A.ended arrivals.new) }
+    ensures returned { A.taken arrivals.new ≡ A.taken arrivals.old + vec_len result.0 }
 {
-    let shop = Shop {
-        floor: Mutex::new(Floor::new(alloc, workers)),
-        left: Condvar::new(),
-    };
-    let fault = serve_shop(rt, alloc, arrivals, &shop, gate);
-    let Shop { floor, left } = shop;
-    drop(left);
-    (floor.into_inner().into_benches(), fault)
+    let blank = Blank::new(PARTS);
+    serve_counted::<Brand, A, G, R>(rt, alloc, blank, workers, arrivals, gate)
 }

@@ -1,5 +1,5 @@
 -- How calls are answered.
-use Rattle.std.specs.Prelude.{◌≡◌, ◌-◌, ℕ, Bool, true, false, if◌then◌else◌, List, [], ◌∷◌, length, slice_get, Option, Some, None, ⊤}
+use Rattle.std.specs.Prelude.{◌≡◌, ◌-◌, Bool, true, false, if◌then◌else◌, List, [], ◌∷◌, length, slice_get, Option, Some, None}
 use Rattle.mails.specs.declared.call.Call.{Call}
 use Rattle.mails.specs.declared.call.Call.TheVariants.{Subscribe, Teardown, Accept, Decline, Revive, Suppress, Kill, Acknowledge, Reconcile}
 use Rattle.scheduler_events.specs.declared.stream_event.StreamEvent.{StreamEvent}
@@ -35,18 +35,6 @@ bench_fault offices.HistoryFull = faults.HistoryFull
 bench_fault offices.OutOfMemory = faults.OutOfMemory
 bench_fault (offices.Core fault) = step_fault fault
 bench_fault offices.SeatsSpent = faults.SeatsSpent
-
--- a refusal that isn't the master's
-abbrev pub IsOfOffice : BenchFault → Type 0
-IsOfOffice (faults.Master refusal) = ⊥
-IsOfOffice faults.MasterOutOfMemory = ⊥
-IsOfOffice faults.MasterDown = ⊤
-IsOfOffice faults.HistoryFull = ⊤
-IsOfOffice faults.OutOfMemory = ⊤
-IsOfOffice faults.NoSuchMail = ⊤
-IsOfOffice faults.ForeignPass = ⊤
-IsOfOffice faults.SeatsSpent = ⊤
-IsOfOffice faults.NoStreamLeft = ⊥
 
 abbrev pub is_subscribe : Call → Bool
 is_subscribe (Subscribe framework role) = true

@@ -1,7 +1,9 @@
 //! The connections of a TCP listener.
 
-ghost use Rattle.std.specs.Prelude.{◌≡◌, false, IfOk, IfSome, IsTrue};
-ghost use Rattle.office_bench.specs.Arrivals.{HasEnded};
+ghost use Rattle.std.specs.Prelude.{◌≡◌, ◌<◌, false, IfNone, IfOk, IfSome, IsTrue, OnSome};
+ghost use Rattle.desk_lock.specs.declared.office.Waited.TheVariants.{Finished};
+ghost use Rattle.office_bench.specs.Arrivals.{HasEnded, IsFinished, most_of, with_failure, with_taken};
+ghost use Rattle.office_bench.specs.Seated.{IsSeated};
 
 use crate::bench::SeatBench;
 use crate::ending::Ending;
@@ -58,7 +60,8 @@ pub struct ConnectionLimits<'a> {
 /// The connections of a listener, each with a seat of an office over a cluster, which is opened for
 /// it. Where the office refuses a seat (O3, O5), the connection's calls are refused so. A connection
 /// that fails before it is taken, as where the system lacks descriptors, is told on standard error,
-/// once a minute while they fail in a row, and the next is waited for.
+/// once a minute while they fail in a row, and the next is waited for. After 2^64 - 1 connections
+/// there are no more.
 #[derive(Drop)]
 pub struct TcpArrivals<'a, D: Running, L: ledger::Ledger, R: Wait + Clock + Eprint> {
     rt: &'a R,
@@ -69,24 +72,45 @@ pub struct TcpArrivals<'a, D: Running, L: ledger::Ledger, R: Wait + Clock + Epri
     listener: &'a TcpListener,
     limits: ConnectionLimits<'a>,
     ending: &'a Ending,
+    /// So many connections are taken at most.
+    most: u64,
     taken: u64,
     /// How many connections failed since the last that was taken.
     failures: u64,
-    finished: bool,
 }
 
 impl<'a, D: Running, L: ledger::Ledger, R: Wait + Clock + Eprint> Model
     for TcpArrivals<'a, D, L, R> {
+    ghost use Rattle.std.specs.Prelude.{◌<◌, ◌≤◌};
     ghost use Rattle.office_bench.specs.Arrivals.{ArrivalsState};
 
     ghost Value = { ArrivalsState };
 
     ghost view = { λ a. record {
       pass = a.pass;
-      limit = a.limits.connections;
+      most = a.most;
       taken = a.taken;
-      finished = a.finished;
+      failures = a.failures;
     } };
+
+    ghost invariant = { λ a. (a.taken ≤ a.most) × (a.most < 18446744073709551616) };
+}
+
+/// Whether a look ended since the office is finished.
+fn is_end(waited: Waited<()>) -> bool
+    ensures { IsTrue result → waited ≡ Finished }
+{
+    matches!(waited, Waited::Finished)
+}
+
+/// How many connections are taken at most, where so many are asked for.
+fn most_of(connections: u64) -> u64
+    ensures { result ≡ most_of connections }
+{
+    if connections == 0 {
+        return u64::MAX;
+    }
+    connections
 }
 
 impl<'a, D: Running, L: ledger::Ledger, R: Wait + Clock + Eprint> TcpArrivals<'a, D, L, R> {
@@ -103,9 +127,9 @@ impl<'a, D: Running, L: ledger::Ledger, R: Wait + Clock + Eprint> TcpArrivals<'a
     ) -> TcpArrivals<'a, D, L, R>
         ensures { result ≡ record {
           pass = pass;
-          limit = limits.entry.connections;
+          most = most_of limits.entry.connections;
           taken = 0;
-          finished = false;
+          failures = 0;
         } }
     {
         TcpArrivals {
@@ -116,9 +140,9 @@ impl<'a, D: Running, L: ledger::Ledger, R: Wait + Clock + Eprint> TcpArrivals<'a
             listener,
             limits,
             ending,
+            most: most_of(limits.connections),
             taken: 0,
             failures: 0,
-            finished: false,
         }
     }
 
@@ -130,7 +154,9 @@ impl<'a, D: Running, L: ledger::Ledger, R: Wait + Clock + Eprint> TcpArrivals<'a
     }
 
     /// Whether the office is finished; a look at it finds something at once otherwise.
-    fn is_office_finished(&self) -> bool {
+    fn is_office_finished(&self) -> bool
+        ensures { IsTrue result → IsFinished D.history D.sound }
+    {
         let found = self.office.wait_for(
             self.rt,
             &self.pass,
@@ -139,38 +165,35 @@ impl<'a, D: Running, L: ledger::Ledger, R: Wait + Clock + Eprint> TcpArrivals<'a
             |_cluster: &D| -> Result<Option<()>, ClusterFault> { Ok(Some(())) },
         );
         match found {
-            Ok(Waited::Finished) => true,
-            _ => false,
+            Ok(waited) => is_end(waited),
+            Err(_) => false,
         }
     }
 
     /// Whether there are no more connections.
-    fn has_ended(&mut self) -> bool
-        ensures { IsTrue result → HasEnded self.new }
+    fn has_ended(&self) -> bool
+        ensures ended { IsTrue result → HasEnded D.history D.sound self.now }
+        ensures fewer { result ≡ false → self.now.taken < self.now.most }
     {
-        let limit = self.limits.connections;
-        if limit > 0 && self.taken >= limit {
-            return true;
-        }
-        if self.is_office_finished() {
-            self.finished = true;
-            return true;
-        }
-        false
+        self.taken >= self.most || self.is_office_finished()
     }
 
-    /// Tells that a connection failed, where it is the first in a row, or the last was told long ago.
-    fn tell(&mut self, error: &io::Error) {
+    /// Tells that a connection failed, where it is the first in a row, or the last was told long
+    /// ago.
+    fn tell(&self, error: &io::Error) {
         if self.failures % TELLS_AGAIN == 0 {
             let _ = eprintln!(self.rt; "Z2 DeviceFault: a connection can't be taken: {error}");
         }
-        self.failures = self.failures.saturating_add(1);
     }
 
     /// Waits for the next connection. Where it fails there is none; since the next would fail at
     /// once where the system lacks descriptors or memory, it waits for 50 milliseconds then.
     fn take(&mut self) -> Option<(TcpInlet<'a>, TcpOutlet<'a, R>)>
-        ensures { IfSome result (λ ends. (ends.0.faults ≡ 0) × (ends.1.faults ≡ 0)) }
+        requires { self.old.taken < self.old.most }
+        ensures countable { IfSome result
+            (λ ends. (ends.0.faults ≡ 0) × (ends.1.faults ≡ 0)) }
+        ensures taken { OnSome result (self.new ≡ with_taken self.old) }
+        ensures failed { IfNone result (self.new ≡ with_failure self.old) }
     {
         match accept(
             self.rt,
@@ -180,11 +203,12 @@ impl<'a, D: Running, L: ledger::Ledger, R: Wait + Clock + Eprint> TcpArrivals<'a
         ) {
             Ok(ends) => {
                 self.failures = 0;
-                self.taken = self.taken.saturating_add(1);
+                self.taken += 1;
                 Some(ends)
             }
             Err(error) => {
                 self.tell(&error);
+                self.failures = self.failures.saturating_add(1);
                 thread::sleep(self.rt, Duration::from_millis(PAUSE));
                 None
             }
@@ -192,7 +216,9 @@ impl<'a, D: Running, L: ledger::Ledger, R: Wait + Clock + Eprint> TcpArrivals<'a
     }
 
     /// What a connection gets for a bench.
-    fn open_seating(&self) -> Seating<'a, D, L, R> {
+    fn open_seating(&self) -> Seating<'a, D, L, R>
+        ensures { IsSeated D.history D.sound result }
+    {
         match self.office.open_seat(self.rt, self.alloc) {
             Ok(pass) => {
                 let (rt, streams) = (self.rt, self.limits.streams);
@@ -215,7 +241,11 @@ impl<
 
     type Seat = Seating<'a, D, L, R>;
 
-    ghost ended = { HasEnded };
+    ghost taken = { λ arrivals. arrivals.taken };
+
+    ghost is_seat = { IsSeated D.history D.sound };
+
+    ghost ended = { HasEnded D.history D.sound };
 
     fn next(&mut self) -> Option<(TcpInlet<'a>, TcpOutlet<'a, R>, Seating<'a, D, L, R>)> {
         let rt = self.rt;

@@ -1,13 +1,17 @@
 //! A seat of an office, as the bench of a connection.
 
-ghost use Rattle.std.specs.Prelude.{◌≡◌, ◌⊎◌, true, OnErr, IfOk, IfErr, MatchOption};
+ghost use Rattle.std.specs.Prelude.{◌≡◌, ◌⊎◌, true, None, OnErr, IfOk, IfErr, MatchOption};
 ghost use Rattle.cluster_steps.specs.declared.step.Step.TheVariants.{Send, Deliver, Take};
 ghost use Rattle.desk_seats.specs.declared.desk.pass.Answered.{Answered as Got};
 ghost use Rattle.cluster_entries.specs.declared.entry.Entry.{Entry};
-ghost use Rattle.office_bench.specs.Answers.{IsOfOffice, answer_of, is_subscribe};
-ghost use Rattle.office_bench.specs.Deeds.{Asks, Delivers, Does, Steps, TurnsAway, call_number};
+ghost use Rattle.cluster_steps.specs.declared.fault.ClusterFault.{ClusterFault as StepFault};
+ghost use Rattle.desk_seats.specs.declared.fault.OfficeFault.{OfficeFault as Refusal};
+ghost use Rattle.http_door.specs.declared.refusal.BenchFault.TheVariants.{OutOfMemory};
+ghost use Rattle.office_bench.specs.Answers.{answer_of, is_subscribe};
+ghost use Rattle.office_bench.specs.Deeds.{Asks, Delivers, Does, Fails, FailsSend, IsRefused, TurnsAway, call_number};
 ghost use Rattle.running_clusters.specs.declared.given.Given.{Given as GivenSo};
 ghost use Rattle.desk_lock.specs.Answering.{Answers};
+ghost use Rattle.desk_lock.specs.Waits.{StreamEnds};
 
 use crate::fault::bench_fault;
 use crate::places::StreamPlaces;
@@ -96,7 +100,8 @@ impl<'a, D: Running, L: ledger::Ledger, R: Wait> SeatBench<'a, D, L, R> {
     /// Has the office take a step.
     fn take(&mut self, step: Step) -> Result<Answered<KeptEntry, Given>, BenchFault>
         ensures stepped { IfOk result (λ a. Answers D.is_taken self.old step a self.new) }
-        ensures refused { IfErr result (λ fault. (self.new ≡ self.old) × IsOfOffice fault) }
+        ensures refused { IfErr result (λ fault. IsRefused D.is_refused self.old step fault) }
+        ensures unchanged { OnErr result (self.new ≡ self.old) }
     {
         match self.office.ask(self.rt, self.alloc, &mut self.pass, step) {
             Ok(answered) => Ok(answered),
@@ -107,7 +112,7 @@ impl<'a, D: Running, L: ledger::Ledger, R: Wait> SeatBench<'a, D, L, R> {
     /// The step that sends a call. The call is one value from then on.
     fn sending(&self, stream: Option<StreamId>, call: Call) -> Result<Step, BenchFault>
         ensures step { IfOk result (λ step. step ≡ Send stream call) }
-        ensures refused { IfErr result IsOfOffice }
+        ensures refused { IfErr result (λ fault. fault ≡ OutOfMemory) }
     {
         match Shared::new(self.alloc, call) {
             Ok(call) => Ok(Step::Send { stream, call }),
@@ -119,9 +124,8 @@ impl<'a, D: Running, L: ledger::Ledger, R: Wait> SeatBench<'a, D, L, R> {
     fn send(&mut self, stream: Option<StreamId>, call: Call) -> Result<u64, BenchFault>
         ensures sent { IfOk result (λ number. (a : Got Entry GivenSo)
             × Answers D.is_taken self.old (Send stream call) a self.new × (number ≡ call_number a)) }
-        ensures refused { IfErr result
-            (λ fault. ((self.new ≡ self.old) ⊎ Steps D.is_taken self.old (Send stream call) self.new)
-            × IsOfOffice fault) }
+        ensures failed { IfErr result
+            (λ fault. FailsSend D.is_taken D.is_refused self.old stream call fault self.new) }
     {
         let step = self.sending(stream, call)?;
         let answered = self.take(step)?;
@@ -136,7 +140,9 @@ impl<'a, D: Running, L: ledger::Ledger, R: Wait> SeatBench<'a, D, L, R> {
         ensures delivered { IfOk result (λ answer. (a : Got Entry GivenSo)
             × Answers D.is_taken self.old (Deliver number) a self.new
             × (answer ≡ answer_of subscribes a.receipt.entry)) }
-        ensures refused { IfErr result (λ fault. (self.new ≡ self.old) × IsOfOffice fault) }
+        ensures refused { IfErr result
+            (λ fault. IsRefused D.is_refused self.old (Deliver number) fault) }
+        ensures unchanged { OnErr result (self.new ≡ self.old) }
     {
         let answered = self.take(Step::Deliver(number))?;
         Ok(answer_of(subscribes, answered.receipt.entry.get()))
@@ -150,6 +156,10 @@ impl<'a, D: Running, L: ledger::Ledger, R: Wait> SeatBench<'a, D, L, R> {
         ensures taken { IfOk result
             (λ answered. MatchOption answered (self.new ≡ self.old)
             (λ a. Answers D.is_taken self.old (Take stream) a self.new)) }
+        ensures ended { IfOk result (λ answered. answered ≡ None
+            → StreamEnds D.history D.sound D.stream_of stream) }
+        ensures refused { OnErr result
+            ((cause : Refusal StepFault) × D.is_refused self.old (Take stream) cause) }
         ensures unchanged { OnErr result (self.new ≡ self.old) }
     {
         match self
@@ -164,9 +174,8 @@ impl<'a, D: Running, L: ledger::Ledger, R: Wait> SeatBench<'a, D, L, R> {
     /// Sends a call and delivers it.
     fn ask(&mut self, stream: Option<StreamId>, call: Call) -> Result<Answer, BenchFault>
         ensures asked { IfOk result (λ answer. Delivers D.is_taken self.old stream call answer self.new) }
-        ensures refused { IfErr result
-            (λ fault. ((self.new ≡ self.old) ⊎ Steps D.is_taken self.old (Send stream call) self.new)
-            × IsOfOffice fault) }
+        ensures failed { IfErr result
+            (λ fault. Fails D.is_taken D.is_refused self.old stream call fault self.new) }
     {
         let subscribes = is_subscribe(&call);
         let number = self.send(stream, call)?;
@@ -177,7 +186,7 @@ impl<'a, D: Running, L: ledger::Ledger, R: Wait> SeatBench<'a, D, L, R> {
 impl<'a, D: Running, L: ledger::Ledger, R: Wait> SeatBench<'a, D, L, R> {
     /// Sends a call and delivers it. A refusal is the answer.
     fn answer(&mut self, stream: Option<StreamId>, call: Call) -> Answer
-        ensures { Asks D.is_taken self.old stream call result self.new }
+        ensures { Asks D.is_taken D.is_refused self.old stream call result self.new }
     {
         match self.ask(stream, call) {
             Ok(answer) => answer,
@@ -189,7 +198,7 @@ impl<'a, D: Running, L: ledger::Ledger, R: Wait> SeatBench<'a, D, L, R> {
     /// is open.
     fn subscribe(&mut self, stream: Option<StreamId>, call: Call) -> Answer
         requires { is_subscribe call ≡ true }
-        ensures { Asks D.is_taken self.old stream call result self.new
+        ensures { Asks D.is_taken D.is_refused self.old stream call result self.new
             ⊎ TurnsAway self.old call result self.new }
     {
         if !self.take_place() {
@@ -205,7 +214,7 @@ impl<'a, D: Running, L: ledger::Ledger, R: Wait> SeatBench<'a, D, L, R> {
 }
 
 impl<'a, D: Running, L: ledger::Ledger, R: Wait> Bench for SeatBench<'a, D, L, R> {
-    ghost does = { Does D.is_taken };
+    ghost does = { Does D.is_taken D.is_refused (StreamEnds D.history D.sound D.stream_of) };
 
     fn call(&mut self, stream: Option<StreamId>, call: Call) -> Answer {
         if is_subscribe(&call) {

@@ -1,15 +1,14 @@
 //! An office's refusals, as a client receives them.
 
 ghost use Rattle.std.specs.Prelude.{◌≡◌};
-ghost use Rattle.office_bench.specs.Answers.{IsOfOffice, bench_fault, step_fault};
+ghost use Rattle.office_bench.specs.Answers.{bench_fault, step_fault};
 
 use desk_lock::OfficeFault;
 use http_door::BenchFault;
 use running_clusters::ClusterFault;
 
 fn step_fault(fault: ClusterFault) -> BenchFault
-    ensures same { result ≡ step_fault fault }
-    ensures of_office { IsOfOffice result }
+    ensures { result ≡ step_fault fault }
 {
     match fault {
         ClusterFault::MasterDown => BenchFault::MasterDown,
@@ -22,8 +21,7 @@ fn step_fault(fault: ClusterFault) -> BenchFault
 /// What an office's refusal of a call means to a client. The refusals of agents and of moments,
 /// which no call meets, are C1 too.
 pub fn bench_fault(fault: OfficeFault<ClusterFault>) -> BenchFault
-    ensures same { result ≡ bench_fault fault }
-    ensures of_office { IsOfOffice result }
+    ensures { result ≡ bench_fault fault }
 {
     match fault {
         OfficeFault::ForeignPass(_) => BenchFault::ForeignPass,

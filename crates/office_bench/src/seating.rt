@@ -1,6 +1,7 @@
 //! What a connection got for a bench.
 
 ghost use Rattle.std.specs.Prelude.{◌≡◌};
+ghost use Rattle.desk_lock.specs.Waits.{StreamEnds};
 ghost use Rattle.office_bench.specs.Seated.{SeatingDoes, pass_of};
 
 use crate::bench::SeatBench;
@@ -33,7 +34,8 @@ impl<'a, D: Running, L: ledger::Ledger, R: Wait> Seating<'a, D, L, R> {
 }
 
 impl<'a, D: Running, L: ledger::Ledger, R: Wait> Bench for Seating<'a, D, L, R> {
-    ghost does = { SeatingDoes D.is_taken };
+    ghost does = { SeatingDoes D.is_taken D.is_refused
+        (StreamEnds D.history D.sound D.stream_of) };
 
     fn call(&mut self, stream: Option<StreamId>, call: Call) -> Answer {
         match self {

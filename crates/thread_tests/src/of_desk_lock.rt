@@ -241,7 +241,7 @@ fn wait_and_add<L: ledger::Ledger, R: Wait>(
     (pass, matches!(answered, Ok(Some(_))))
 }
 
-/// Whether somebody waits, within 30 seconds.
+/// Whether somebody waits, within 1,000,000 turns of 100 microseconds.
 fn is_waited_for<R: Clock>(rt: &R, waits: &AtomicBool) -> bool {
     for _ in 0..1_000_000u32 {
         if waits.load(Ordering::SeqCst) {

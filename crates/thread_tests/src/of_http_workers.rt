@@ -1,4 +1,4 @@
-ghost use Rattle.std.specs.Prelude.{◌≡◌, ◌<◌, [], ⊤};
+ghost use Rattle.std.specs.Prelude.{◌≡◌, ◌-◌, ◌<◌, ◌≤◌, [], ⊤, IfSome, length};
 
 use http_door::{Answer, Bench, Gate, Inlet, NoGate, Outlet, Sink, Source};
 use http_workers::{Arrivals, HttpFault, serve_all};
@@ -66,6 +66,9 @@ impl Bench for Script {
 struct Waiting {
     alloc: Global,
     requests: Vec<Vec<u8>>,
+    /// How many there were.
+    count: usize,
+    ghost fewer: { length requests.items ≤ count },
 }
 
 impl Arrivals for Waiting {
@@ -74,6 +77,10 @@ impl Arrivals for Waiting {
     type Out = Sink;
 
     type Seat = Script;
+
+    ghost taken = { λ w. w.count - length w.requests.items };
+
+    ghost is_seat = { λ script. script.calls ≡ 0 };
 
     ghost ended = { λ w. w.requests.items ≡ [] };
 
@@ -126,7 +133,12 @@ fn push_requests(
 fn requests_of(alloc: Global, request: &str, count: usize) -> Option<Waiting> {
     let mut requests = Vec::new(alloc);
     push_requests(&mut requests, alloc, request, count)?;
-    Some(Waiting { alloc, requests })
+    let count = requests.len();
+    Some(Waiting {
+        alloc,
+        requests,
+        count,
+    })
 }
 
 /// Whether each of so many benches was returned, and took one call.
@@ -239,7 +251,22 @@ impl Outlet for Line {
 #[derive(Drop)]
 struct Accepting<'a> {
     listener: &'a TcpListener,
-    left: u32,
+    most: u32,
+    taken: u32,
+}
+
+/// Waits for a client, and returns both ends of its connection.
+fn accepted(listener: &TcpListener) -> Option<(Line, Line)>
+    ensures { IfSome result (λ ends. (ends.0.faults ≡ 0) × (ends.1.faults ≡ 0)) }
+{
+    let stream = listener.accept().ok()?.0;
+    let other = stream.try_clone().ok()?;
+    let inlet = Line { stream, faults: 0 };
+    let outlet = Line {
+        stream: other,
+        faults: 0,
+    };
+    Some((inlet, outlet))
 }
 
 impl<'a> Arrivals for Accepting<'a> {
@@ -249,20 +276,18 @@ impl<'a> Arrivals for Accepting<'a> {
 
     type Seat = Script;
 
+    ghost taken = { λ a. a.taken };
+
+    ghost is_seat = { λ script. script.calls ≡ 0 };
+
     ghost ended = { λ _. ⊤ };
 
     fn next(&mut self) -> Option<(Line, Line, Script)> {
-        if self.left == 0 {
+        if self.taken >= self.most {
             return None;
         }
-        self.left -= 1;
-        let stream = self.listener.accept().ok()?.0;
-        let other = stream.try_clone().ok()?;
-        let inlet = Line { stream, faults: 0 };
-        let outlet = Line {
-            stream: other,
-            faults: 0,
-        };
+        let (inlet, outlet) = accepted(self.listener)?;
+        self.taken += 1;
         Some((
             inlet,
             outlet,
@@ -353,7 +378,11 @@ fn serves_two<R: Net<Listener = TcpListener, Stream = TcpStream> + Threads + Wai
     listener: &TcpListener,
     to: SocketAddr,
 ) -> bool {
-    let mut arrivals = Accepting { listener, left: 2 };
+    let mut arrivals = Accepting {
+        listener,
+        most: 2,
+        taken: 0,
+    };
     let gate = Overlap {
         rt,
         calls: AtomicU64::new(0),
