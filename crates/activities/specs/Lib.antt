@@ -1,3 +1,7 @@
+pub mod Asked
+pub mod Ends
+pub mod Moments
 pub mod Rounds
 pub mod Saved
 pub mod Seen
+pub mod Stops

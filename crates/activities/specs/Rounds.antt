@@ -1,65 +1,68 @@
 -- The steps that a ticker requests of an office.
-use Rattle.std.specs.Prelude.{◌≡◌, ◌⊎◌, ℕ, List, [], ◌∷◌, Bool, true, false, not, Result, Ok, Err}
+use Rattle.std.specs.Prelude.{◌≡◌, ◌⊎◌, ℕ, List, [], ◌∷◌, Option, Bool, true, not, Result, Ok, Err}
 use Rattle.cluster_entries.specs.declared.entry.Entry.{Entry}
 use Rattle.cluster_steps.specs.declared.fault.ClusterFault.{ClusterFault}
-use Rattle.cluster_steps.specs.declared.fault.ClusterFault.TheVariants.{NoSuchAgent}
-use Rattle.cluster_steps.specs.declared.step.Step.{Step}
 use Rattle.cluster_steps.specs.declared.step.Step.TheVariants.{Allocate, Tick}
 use Rattle.desk_seats.specs.Receipts.{PassState}
-use Rattle.desk_seats.specs.declared.desk.pass.Answered.{Answered}
 use Rattle.desk_seats.specs.declared.fault.OfficeFault.{OfficeFault}
-use Rattle.desk_seats.specs.declared.fault.OfficeFault.TheVariants.{Core, ForeignPass}
-use Rattle.running_clusters.specs.declared.given.Given.{Given}
-use Rattle.desk_lock.specs.Answering.{Answers, Refusing, Taking}
-
--- the step is answered: it is taken, and the pass has its receipt
-abbrev pub IsAnswered : Taking → Step → PassState Entry → PassState Entry → Type 0
-IsAnswered is_taken step old new = (a : Answered Entry Given) × Answers is_taken old step a new
-
--- the step was requested: it is answered, or refused, which leaves the pass as it was
-abbrev pub IsAsked : Taking → Refusing → Step → PassState Entry → PassState Entry → Type 0
-IsAsked is_taken is_refused step old new =
-    IsAnswered is_taken step old new
-    ⊎ ((fault : OfficeFault ClusterFault) × is_refused old step fault × (new ≡ old))
-
--- whether a fault ends a ticker: its pass is of another history, or an agent isn't configured
-abbrev pub ends_ticker : OfficeFault ClusterFault → Bool
-ends_ticker (ForeignPass n) = true
-ends_ticker (Core NoSuchAgent) = true
-ends_ticker fault = false
+use Rattle.desk_lock.specs.Answering.{Refusing, Taking}
+use Rattle.activities.specs.Asked.{IsAsked, IsTurnedAway, ends}
+use Rattle.activities.specs.Moments.{Reading, moment_after}
 
 -- whether a ticker goes on after an answer
 abbrev pub goes_on_after : {A : Type 0} → Result A (OfficeFault ClusterFault) → Bool
 goes_on_after (Ok answer) = true
-goes_on_after (Err fault) = not (ends_ticker fault)
+goes_on_after (Err fault) = not (ends fault)
 
--- a Tick was requested, and then a round of offers
-pub record IsRound (is_taken : Taking) (is_refused : Refusing)
-    (old new : PassState Entry) : Type 0 where
+-- a ticker: its clock, its last moment, and its pass
+pub record Ticking (S : Type 0) : Type 0 where
+  pub clock : S
   pub moment : ℕ
+  pub pass : PassState Entry
+
+-- the clock was read once, and the moment is the one after the last by what was read
+pub record IsTimed {S : Type 0} (reads : Reading S) (old new : Ticking S) : Type 0 where
+  pub seconds : Option ℕ
+  pub is_read : reads old.clock seconds new.clock
+  pub is_next : new.moment ≡ moment_after old.moment seconds
+
+-- a Tick of the next moment was requested, and then a round of offers
+pub record IsRound {S : Type 0} (is_taken : Taking) (is_refused : Refusing) (reads : Reading S)
+    (old new : Ticking S) : Type 0 where
+  pub timed : IsTimed reads old new
   pub between : PassState Entry
-  pub ticks : IsAsked is_taken is_refused (Tick moment) old between
-  pub offers : IsAsked is_taken is_refused Allocate between new
+  pub ticks : IsAsked is_taken is_refused (Tick new.moment) old.pass between
+  pub offers : IsAsked is_taken is_refused Allocate between new.pass
 
--- a Tick was requested, and refused with a fault that ends the ticker
-pub record IsCutRound (is_refused : Refusing) (old new : PassState Entry) : Type 0 where
+-- a Tick of the next moment was requested, and refused with a fault that ends the ticker
+pub record IsCutRound {S : Type 0} (is_refused : Refusing) (reads : Reading S)
+    (old new : Ticking S) : Type 0 where
+  pub timed : IsTimed reads old new
+  pub refused : IsTurnedAway is_refused (Tick new.moment) old.pass
+  pub same : new.pass ≡ old.pass
+
+-- the last round: a whole one, or one that is cut
+abbrev pub IsLastRound : {S : Type 0} → Taking → Refusing → Reading S → Ticking S → Ticking S
+    → Type 0
+IsLastRound is_taken is_refused reads old new =
+    IsRound is_taken is_refused reads old new ⊎ IsCutRound is_refused reads old new
+
+-- rounds, one after another, with what the ticker is after each
+abbrev pub AreRounds : {S : Type 0} → Taking → Refusing → Reading S → List (Ticking S)
+    → Ticking S → Ticking S → Type 0
+AreRounds is_taken is_refused reads [] old new = new ≡ old
+AreRounds is_taken is_refused reads (next ∷ states) old new =
+    IsRound is_taken is_refused reads old next × AreRounds is_taken is_refused reads states next new
+
+-- a ticker with this clock, at this moment, over this pass
+abbrev pub ticking : {S : Type 0} → S → ℕ → PassState Entry → Ticking S
+ticking clock moment pass = record { clock = clock; moment = moment; pass = pass }
+
+-- from moment 0 on one round after another, one at least; the last may be cut
+pub record HasRounds {S : Type 0} (is_taken : Taking) (is_refused : Refusing) (reads : Reading S)
+    (clock_before clock : S) (pass_before pass : PassState Entry) : Type 0 where
+  pub states : List (Ticking S)
+  pub before : Ticking S
   pub moment : ℕ
-  pub fault : OfficeFault ClusterFault
-  pub refused : is_refused old (Tick moment) fault
-  pub ends : ends_ticker fault ≡ true
-  pub same : new ≡ old
-
--- rounds, one after another, with the passes that they leave
-abbrev pub AreRounds : Taking → Refusing → List (PassState Entry) → PassState Entry
-    → PassState Entry → Type 0
-AreRounds is_taken is_refused [] old new = new ≡ old
-AreRounds is_taken is_refused (next ∷ passes) old new =
-    IsRound is_taken is_refused old next × AreRounds is_taken is_refused passes next new
-
--- one round at least, one after another; the last may be cut
-pub record HasRounds (is_taken : Taking) (is_refused : Refusing)
-    (old new : PassState Entry) : Type 0 where
-  pub passes : List (PassState Entry)
-  pub before : PassState Entry
-  pub rounds : AreRounds is_taken is_refused passes old before
-  pub last : IsRound is_taken is_refused before new ⊎ IsCutRound is_refused before new
+  pub rounds : AreRounds is_taken is_refused reads states (ticking clock_before 0 pass_before) before
+  pub last : IsLastRound is_taken is_refused reads before (ticking clock moment pass)

@@ -1,17 +1,20 @@
 //! Each draft is saved before it is committed.
 
-ghost use Rattle.std.specs.Prelude.{◌≡◌, false, None, Some, IsTrue, IfOk};
+ghost use Rattle.std.specs.Prelude.{◌≡◌, false, None, Some, IsTrue, IfErr, IfOk};
 ghost use Rattle.mails.specs.declared.record.Durable.{Durable};
-ghost use Rattle.activities.specs.Saved.{IsLastSaved, IsOpen, Keeps};
+ghost use Rattle.activities.specs.Ends.{IsOver};
+ghost use Rattle.activities.specs.Saved.{IsKept, IsLastSaved, IsOpen, Keeps, WasKept};
+ghost use Rattle.activities.specs.declared.fault.Stop.TheVariants.{Ended};
 ghost use Rattle.activities.specs.declared.keeping.Saving.TheVariants.{Kept, NoDraft};
 ghost use Rattle.cluster_steps.specs.declared.step.Keep.TheVariants.{After};
+ghost use Rattle.desk_lock.specs.Waits.{LacksAgent};
 
-use crate::fault::{ActivityFault, Stop, stop_of};
+use crate::fault::{ActivityFault, Stop, found};
 use crate::receipts::has_stopped;
 use crate::records::is_own;
 use crate::worker::Worker;
 use agent_core::{Cabinet, Record};
-use desk_lock::{Pass, Waited};
+use desk_lock::Pass;
 use names_core::AgentName;
 use plain_data::Plain;
 use running_clusters::{Awaited, ClusterFault, Keep, KeptEntry, Running, StepCause};
@@ -38,9 +41,23 @@ fn is_open_draft(opened: &Option<Record>, kept: &Option<Record>) -> bool
     }
 }
 
+/// Whether what a cabinet keeps is the record of an agent. Refusal: C8.
+fn owns_at<D: Running>(
+    cluster: &D,
+    agent: &AgentName,
+    kept: &Option<Record>,
+) -> Result<Option<bool>, ClusterFault>
+    ensures { IfErr result (λ fault. LacksAgent D.record_of agent.now cluster.now fault) }
+{
+    match cluster.durable(agent) {
+        Some(own) => Ok(Some(is_own(kept, own))),
+        None => Err(ClusterFault::NoSuchAgent),
+    }
+}
+
 impl<'a, D: Running, L: ledger::Ledger, R: Wait + Clock> Worker<'a, D, L, R> {
     /// Saves the draft that the last answer opened.
-    #[tactic(auto, using(crate::proofs::Saves::keeps_itself, crate::proofs::Saves::keeps_more, crate::proofs::Saves::open_saved))]
+    #[tactic(auto, using(crate::proofs::Saves::open_saved))]
     fn save<C: Cabinet>(
         &self,
         pass: &Pass<KeptEntry, L>,
@@ -48,10 +65,8 @@ impl<'a, D: Running, L: ledger::Ledger, R: Wait + Clock> Worker<'a, D, L, R> {
         cabinet: &mut C,
     ) -> Saving
         requires { IsOpen D.is_taken self.now.agent.now opened.now pass.now }
-        ensures kept { result ≡ Kept
-            → IsLastSaved D.is_taken (C.saved cabinet.new) self.now.agent.now pass.now }
-        ensures keeps { Keeps D.is_taken (C.saved cabinet.old) (C.saved cabinet.new)
-            pass.now pass.now }
+        ensures kept { result ≡ Kept → IsLastSaved D.is_taken (IsKept C.keeps cabinet.new)
+            self.now.agent.now pass.now }
         ensures none { result ≡ NoDraft → opened.now ≡ None }
     {
         let Some(draft) = opened else {
@@ -64,23 +79,17 @@ impl<'a, D: Running, L: ledger::Ledger, R: Wait + Clock> Worker<'a, D, L, R> {
     }
 
     /// Whether what a cabinet keeps is the agent's own record.
-    fn owns<F>(&self, pass: &Pass<KeptEntry, L>, kept: &Option<Record>) -> Result<bool, Stop<F>> {
+    fn owns<F>(&self, pass: &Pass<KeptEntry, L>, kept: &Option<Record>) -> Result<bool, Stop<F>>
+        ensures { IfErr result (λ stop. stop ≡ Ended
+            → IsOver D.history D.sound D.record_of D.is_refused self.now.agent.now pass.now) }
+    {
         let agent = self.agent;
-        let look = |cluster: &D| match cluster.durable(agent) {
-            Some(own) => Ok(Some(is_own(kept, own))),
-            None => Err(ClusterFault::NoSuchAgent),
-        };
-        match self.office.wait_for(
-            self.rt,
-            pass,
-            Awaited::mails_to(agent),
-            Duration::ZERO,
-            look,
-        ) {
-            Ok(Waited::Found(owns)) => Ok(owns),
-            Ok(_) => Err(Stop::Ended),
-            Err(fault) => Err(stop_of(fault)),
-        }
+        let look = |cluster: &D| owns_at(cluster, agent, kept);
+        let mails = Awaited::mails_to(agent);
+        found(
+            self.office
+                .wait_for(self.rt, pass, mails, Duration::ZERO, look),
+        )
     }
 
     /// Over which record the agent goes on, by what a cabinet keeps: that of its open draft, or its
@@ -91,8 +100,10 @@ impl<'a, D: Running, L: ledger::Ledger, R: Wait + Clock> Worker<'a, D, L, R> {
         opened: &Option<Record>,
         kept: &Option<Record>,
     ) -> Result<Keep, Stop<F>>
-        ensures { IfOk result (λ keep. keep ≡ After → (draft : Durable)
+        ensures after { IfOk result (λ keep. keep ≡ After → (draft : Durable)
             × (kept.now ≡ Some draft) × (opened.now ≡ Some draft)) }
+        ensures over { IfErr result (λ stop. stop ≡ Ended
+            → IsOver D.history D.sound D.record_of D.is_refused self.now.agent.now pass.now) }
     {
         if is_open_draft(opened, kept) {
             return Ok(Keep::After);
@@ -104,7 +115,6 @@ impl<'a, D: Running, L: ledger::Ledger, R: Wait + Clock> Worker<'a, D, L, R> {
     }
 
     /// Opens the cabinet again after a save that failed, and returns which record it keeps.
-    #[tactic(auto, using(crate::proofs::Saves::keeps_itself, crate::proofs::Saves::keeps_more, crate::proofs::Saves::found_saved))]
     fn standing<C: Cabinet>(
         &self,
         pass: &Pass<KeptEntry, L>,
@@ -113,9 +123,9 @@ impl<'a, D: Running, L: ledger::Ledger, R: Wait + Clock> Worker<'a, D, L, R> {
     ) -> Result<Keep, Stop<C::Fault>>
         requires { IsOpen D.is_taken self.now.agent.now opened.now pass.now }
         ensures after { IfOk result (λ keep. keep ≡ After
-            → IsLastSaved D.is_taken (C.saved cabinet.new) self.now.agent.now pass.now) }
-        ensures keeps { Keeps D.is_taken (C.saved cabinet.old) (C.saved cabinet.new)
-            pass.now pass.now }
+            → IsLastSaved D.is_taken (IsKept C.keeps cabinet.new) self.now.agent.now pass.now) }
+        ensures over { IfErr result (λ stop. stop ≡ Ended
+            → IsOver D.history D.sound D.record_of D.is_refused self.now.agent.now pass.now) }
     {
         match cabinet.reopen(self.alloc) {
             Ok(kept) => self.standing_of(pass, opened, &kept),
@@ -125,7 +135,7 @@ impl<'a, D: Running, L: ledger::Ledger, R: Wait + Clock> Worker<'a, D, L, R> {
 
     /// After a save that failed the agent stops,
     /// and comes up over the record that the cabinet keeps.
-    #[tactic(auto, using(crate::proofs::Saves::keeps_itself, crate::proofs::Saves::keeps_then))]
+    #[tactic(auto, using(crate::proofs::Saves::keeps_itself))]
     fn reopen<C: Cabinet>(
         &self,
         pass: &mut Pass<KeptEntry, L>,
@@ -134,20 +144,20 @@ impl<'a, D: Running, L: ledger::Ledger, R: Wait + Clock> Worker<'a, D, L, R> {
         cabinet: &mut C,
     ) -> Result<(), Stop<C::Fault>>
         requires { IsOpen D.is_taken self.now.agent.now opened.old pass.old }
-        ensures keeps { Keeps D.is_taken (C.saved cabinet.old) (C.saved cabinet.new)
-            pass.old pass.new }
+        ensures keeps { Keeps D.is_taken (WasKept C.keeps) pass.old pass.new }
         ensures opened { IsOpen D.is_taken self.now.agent.now opened.new pass.new }
+        ensures over { IfErr result (λ stop. stop ≡ Ended
+            → IsOver D.history D.sound D.record_of D.is_refused self.now.agent.now pass.new) }
     {
-        match self.standing(pass, opened, cabinet)? {
-            Keep::After => self.stop_after(pass, opened, own),
-            Keep::Before => self.stop_before(pass, opened, own),
-        }
+        let keep = self.standing(pass, opened, cabinet)?;
+        let name = self.name()?;
+        self.stop(pass, opened, own, name, keep)
     }
 
     /// Does what the last answer leaves to be done, and returns whether there was something: a
     /// draft is saved and committed, and an agent that stopped starts. Where there was nothing no
     /// draft is open.
-    #[tactic(auto, using(crate::proofs::Saves::keeps_itself, crate::proofs::Saves::keeps_then))]
+    #[tactic(auto, using(crate::proofs::Saves::keeps_itself))]
     pub fn settle<C: Cabinet>(
         &self,
         pass: &mut Pass<KeptEntry, L>,
@@ -156,14 +166,16 @@ impl<'a, D: Running, L: ledger::Ledger, R: Wait + Clock> Worker<'a, D, L, R> {
         cabinet: &mut C,
     ) -> Result<bool, Stop<C::Fault>>
         requires { IsOpen D.is_taken self.now.agent.now opened.old pass.old }
-        ensures keeps { Keeps D.is_taken (C.saved cabinet.old) (C.saved cabinet.new)
-            pass.old pass.new }
+        ensures keeps { Keeps D.is_taken (WasKept C.keeps) pass.old pass.new }
         ensures opened { IsOpen D.is_taken self.now.agent.now opened.new pass.new }
         ensures none { IfOk result (λ did. did ≡ false → opened.new ≡ None) }
+        ensures over { IfErr result (λ stop. stop ≡ Ended
+            → IsOver D.history D.sound D.record_of D.is_refused self.now.agent.now pass.new) }
     {
         match self.save(pass, opened, cabinet) {
             Saving::Kept => {
-                self.commit(pass, opened, own)?;
+                let names = self.names()?;
+                self.commit(pass, opened, own, names)?;
                 Ok(true)
             }
             Saving::Failed => {
@@ -174,7 +186,8 @@ impl<'a, D: Running, L: ledger::Ledger, R: Wait + Clock> Worker<'a, D, L, R> {
                 if !has_stopped(pass) {
                     return Ok(false);
                 }
-                self.prepare(pass, opened, own, StepCause::Start(None))?;
+                let names = self.names()?;
+                self.prepare(pass, opened, own, names, StepCause::Start(None))?;
                 Ok(true)
             }
         }

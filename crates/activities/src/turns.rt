@@ -1,14 +1,17 @@
 //! What an agent does in a thread of its own.
 
-ghost use Rattle.std.specs.Prelude.{◌≡◌, Some, IfOk};
-ghost use Rattle.activities.specs.Saved.{CommitsSaved, IsGrown, IsOpen, Keeps};
+ghost use Rattle.std.specs.Prelude.{◌≡◌, None, Some, IfErr, IfNone, IfOk};
+ghost use Rattle.activities.specs.Ends.{IsOver};
+ghost use Rattle.activities.specs.Saved.{CommitsSaved, IsGrown, IsOpen, Keeps, WasKept};
 ghost use Rattle.activities.specs.Seen.{IsSeen};
+ghost use Rattle.activities.specs.declared.fault.Stop.TheVariants.{Ended};
+ghost use Rattle.cluster_steps.specs.declared.fault.ClusterFault.TheVariants.{NoSuchAgent};
 
 use crate::executor::Executors;
-use crate::fault::{ActivityFault, Stop, stop_of};
+use crate::fault::{ActivityFault, Stop};
 use crate::worker::Worker;
 use agent_core::{Cabinet, Record};
-use desk_lock::{Office, Pass, Waited};
+use desk_lock::{Office, Pass};
 use names_core::AgentName;
 use plain_data::Plain;
 use quantity::Resources;
@@ -19,7 +22,9 @@ use std::time::{Clock, Duration, Instant};
 
 /// A copy of an agent's record, which has an owner more of each task. Refusals: C8 and C9.
 fn copy_of<D: Running>(cluster: &D, agent: &AgentName) -> Result<Option<Record>, ClusterFault>
-    ensures { IfOk result (λ copy. D.record_of cluster.now agent.now ≡ copy) }
+    ensures copy { IfOk result (λ copy. D.record_of cluster.now agent.now ≡ copy) }
+    ensures lacks { IfErr result
+        (λ fault. fault ≡ NoSuchAgent → D.record_of cluster.now agent.now ≡ None) }
 {
     match cluster.durable(agent) {
         Some(own) => match own.copy() {
@@ -33,38 +38,26 @@ fn copy_of<D: Running>(cluster: &D, agent: &AgentName) -> Result<Option<Record>,
 impl<'a, D: Running, L: ledger::Ledger, R: Wait + Clock> Worker<'a, D, L, R> {
     /// Whether the agent has an open session.
     fn is_in_session<F>(&self, pass: &Pass<KeptEntry, L>) -> Result<bool, Stop<F>>
-        ensures { IfOk result (λ is. IsSeen D.history D.sound
+        ensures seen { IfOk result (λ is. IsSeen D.history D.sound
             (λ c. is ≡ D.has_session c self.now.agent.now)) }
+        ensures over { IfErr result (λ stop. stop ≡ Ended
+            → IsOver D.history D.sound D.record_of D.is_refused self.now.agent.now pass.now) }
     {
         let agent = self.agent;
         let look = |cluster: &D| Ok(Some(cluster.is_in_session(agent)));
-        let mails = Awaited::mails_to(agent);
-        match self
-            .office
-            .wait_for(self.rt, pass, mails, Duration::ZERO, look)
-        {
-            Ok(Waited::Found(is)) => Ok(is),
-            Ok(_) => Err(Stop::Ended),
-            Err(fault) => Err(stop_of(fault)),
-        }
+        self.wait(pass, Awaited::mails_to(agent), Duration::ZERO, look)
     }
 
     /// A copy of the agent's own record, which has an owner more of each task.
     fn record<F>(&self, pass: &Pass<KeptEntry, L>) -> Result<Record, Stop<F>>
-        ensures { IfOk result (λ own. IsSeen D.history D.sound
+        ensures seen { IfOk result (λ own. IsSeen D.history D.sound
             (λ c. D.record_of c self.now.agent.now ≡ Some own)) }
+        ensures over { IfErr result (λ stop. stop ≡ Ended
+            → IsOver D.history D.sound D.record_of D.is_refused self.now.agent.now pass.now) }
     {
         let agent = self.agent;
         let look = |cluster: &D| copy_of(cluster, agent);
-        let mails = Awaited::mails_to(agent);
-        match self
-            .office
-            .wait_for(self.rt, pass, mails, Duration::ZERO, look)
-        {
-            Ok(Waited::Found(record)) => Ok(record),
-            Ok(_) => Err(Stop::Ended),
-            Err(fault) => Err(stop_of(fault)),
-        }
+        self.wait(pass, Awaited::mails_to(agent), Duration::ZERO, look)
     }
 
     /// Begins a turn. It uses the agent's own record where that is known, and no answer depends on
@@ -75,7 +68,10 @@ impl<'a, D: Running, L: ledger::Ledger, R: Wait + Clock> Worker<'a, D, L, R> {
         own: &mut Option<Record>,
         executors: &mut Executors,
         now: Instant,
-    ) -> Result<(), Stop<F>> {
+    ) -> Result<(), Stop<F>>
+        ensures over { IfErr result (λ stop. stop ≡ Ended
+            → IsOver D.history D.sound D.record_of D.is_refused self.now.agent.now pass.now) }
+    {
         let is_in_session = self.is_in_session(pass)?;
         let record = match own.take() {
             Some(record) => record,
@@ -97,7 +93,10 @@ impl<'a, D: Running, L: ledger::Ledger, R: Wait + Clock> Worker<'a, D, L, R> {
         pass: &Pass<KeptEntry, L>,
         own: &mut Option<Record>,
         executors: &mut Executors,
-    ) -> Result<Option<StepCause>, Stop<F>> {
+    ) -> Result<Option<StepCause>, Stop<F>>
+        ensures over { IfErr result (λ stop. stop ≡ Ended
+            → IsOver D.history D.sound D.record_of D.is_refused self.now.agent.now pass.now) }
+    {
         let Ok(now) = Instant::now(self.rt) else {
             return Err(Stop::Later);
         };
@@ -118,7 +117,6 @@ impl<'a, D: Running, L: ledger::Ledger, R: Wait + Clock> Worker<'a, D, L, R> {
 
     /// Takes the agent on by a step or two: what the last answer leaves to be done,
     /// or else its mails are delivered and the next cause is prepared.
-    #[tactic(auto, using(crate::proofs::Saves::keeps_itself, crate::proofs::Saves::keeps_then, crate::proofs::Saves::none_open))]
     fn go_on<C: Cabinet>(
         &self,
         pass: &mut Pass<KeptEntry, L>,
@@ -128,22 +126,47 @@ impl<'a, D: Running, L: ledger::Ledger, R: Wait + Clock> Worker<'a, D, L, R> {
         executors: &mut Executors,
     ) -> Result<(), Stop<C::Fault>>
         requires { IsOpen D.is_taken self.now.agent.now opened.old pass.old }
-        ensures keeps { Keeps D.is_taken (C.saved cabinet.old) (C.saved cabinet.new)
-            pass.old pass.new }
+        ensures keeps { Keeps D.is_taken (WasKept C.keeps) pass.old pass.new }
         ensures opened { IsOpen D.is_taken self.now.agent.now opened.new pass.new }
+        ensures over { IfErr result (λ stop. stop ≡ Ended
+            → IsOver D.history D.sound D.record_of D.is_refused self.now.agent.now pass.new) }
     {
         if self.settle(pass, opened, own, cabinet)? {
             return Ok(());
         }
         self.deliver(pass)?;
         match self.next_cause(pass, own, executors)? {
-            Some(cause) => self.prepare(pass, opened, own, cause),
+            Some(cause) => {
+                let names = self.names()?;
+                self.prepare(pass, opened, own, names, cause)
+            }
             None => Ok(()),
         }
     }
 
-    /// Goes on until the office is finished or until nothing more can be done, and returns why it
-    /// ends if that is a fault. Where something is left for later it waits for a second.
+    /// Goes on, and waits for a second where something is left for later.
+    fn turn<C: Cabinet>(
+        &self,
+        pass: &mut Pass<KeptEntry, L>,
+        opened: &mut Option<Record>,
+        own: &mut Option<Record>,
+        cabinet: &mut C,
+        executors: &mut Executors,
+    ) -> Result<(), Stop<C::Fault>>
+        requires { IsOpen D.is_taken self.now.agent.now opened.old pass.old }
+        ensures keeps { Keeps D.is_taken (WasKept C.keeps) pass.old pass.new }
+        ensures opened { IsOpen D.is_taken self.now.agent.now opened.new pass.new }
+        ensures over { IfErr result (λ stop. stop ≡ Ended
+            → IsOver D.history D.sound D.record_of D.is_refused self.now.agent.now pass.new) }
+    {
+        match self.go_on(pass, opened, own, cabinet, executors) {
+            Err(Stop::Later) => self.pause(pass),
+            went => went,
+        }
+    }
+
+    /// Goes on until the office is finished or until nothing more can be done,
+    /// and returns why it ends if that is a fault.
     #[tactic(auto, using(crate::proofs::Saves::keeps_itself, crate::proofs::Saves::keeps_then))]
     fn go_on_until_end<C: Cabinet>(
         &self,
@@ -154,13 +177,14 @@ impl<'a, D: Running, L: ledger::Ledger, R: Wait + Clock> Worker<'a, D, L, R> {
         executors: &mut Executors,
     ) -> Option<ActivityFault<C::Fault>>
         requires { IsOpen D.is_taken self.now.agent.now opened.old pass.old }
-        ensures { Keeps D.is_taken (C.saved cabinet.old) (C.saved cabinet.new) pass.old pass.new }
+        ensures keeps { Keeps D.is_taken (WasKept C.keeps) pass.old pass.new }
+        ensures over { IfNone result
+            (IsOver D.history D.sound D.record_of D.is_refused self.now.agent.now pass.new) }
     {
         for _ in self.rt.forever() {
-            match self.go_on(pass, opened, own, cabinet, executors) {
-                Ok(()) => {}
-                Err(Stop::Later) if self.pause(pass) => {}
-                Err(Stop::Later | Stop::Ended) => return None,
+            match self.turn(pass, opened, own, cabinet, executors) {
+                Ok(()) | Err(Stop::Later) => {}
+                Err(Stop::Ended) => return None,
                 Err(Stop::Failed(fault)) => return Some(fault),
             }
         }
@@ -177,7 +201,6 @@ impl<'a, D: Running, L: ledger::Ledger, R: Wait + Clock> Worker<'a, D, L, R> {
 /// agent is seen at a turn once the activity commits or stops the agent itself. It ends before by
 /// O1 and C8, and by a fault that it returns, for which it finishes the office; after other
 /// refusals it does the same again a second later.
-#[tactic(auto, using(crate::proofs::Saves::keeps_itself, crate::proofs::Saves::keeps_then))]
 pub fn activity<D: Running, L: ledger::Ledger, R: Wait + Clock, C: Cabinet>(
     rt: &R,
     alloc: Global,
@@ -188,9 +211,11 @@ pub fn activity<D: Running, L: ledger::Ledger, R: Wait + Clock, C: Cabinet>(
     pace: u64,
     total: &Resources,
 ) -> (Pass<KeptEntry, L>, Option<ActivityFault<C::Fault>>)
-    requires { CommitsSaved D.is_taken (C.saved cabinet.old) pass }
-    ensures saved { CommitsSaved D.is_taken (C.saved cabinet.new) result.0 }
+    requires { CommitsSaved D.is_taken (WasKept C.keeps) pass }
+    ensures saved { CommitsSaved D.is_taken (WasKept C.keeps) result.0 }
     ensures grown { IsGrown pass result.0 }
+    ensures over { IfNone result.1
+        (IsOver D.history D.sound D.record_of D.is_refused agent.now result.0) }
 {
     let worker = Worker {
         rt,

@@ -1,14 +1,20 @@
 //! The steps that an activity takes, each at the office.
 
-ghost use Rattle.std.specs.Prelude.{◌≡◌, Bool, None, Some, IfOk, IfSome, OnErr, OnOk};
-ghost use Rattle.mails.specs.declared.record.Durable.{Durable};
-ghost use Rattle.desk_lock.specs.Answering.{Answers};
-ghost use Rattle.activities.specs.Saved.{IsBehindSave, IsLastSaved, IsOpen, Keeps, last_of};
+ghost use Rattle.std.specs.Prelude.{◌≡◌, None, Ok, Err, Some, IfErr, IfOk, OnErr, OnOk, MatchResult};
+ghost use Rattle.std.specs.Fn.{FnReturnsAt};
+ghost use Rattle.activities.specs.Asked.{IsAnswered};
+ghost use Rattle.activities.specs.Ends.{IsOver, IsShut};
+ghost use Rattle.activities.specs.Saved.{HasDelivered, IsOpen};
 ghost use Rattle.activities.specs.Seen.{IsSeen};
+ghost use Rattle.activities.specs.Stops.{IsAfter, IsLeft, IsRefused};
+ghost use Rattle.activities.specs.declared.fault.Stop.TheVariants.{Ended, Later};
+ghost use Rattle.cluster_steps.specs.declared.fault.ClusterFault.TheVariants.{NoSuchAgent};
+ghost use Rattle.cluster_steps.specs.declared.step.Step.TheVariants.{Commit, Prepare, StopAgent};
+ghost use Rattle.desk_lock.specs.Answering.{Answers};
 
-use crate::fault::{Stop, stop_of};
+use crate::fault::{Stop, found, mail_found, says_down, stop_of, unless_later};
 use agent_core::Record;
-use desk_lock::{Answered, Office, OfficeFault, Pass, Waited, Wake};
+use desk_lock::{Answered, Office, OfficeFault, Pass};
 use names_core::AgentName;
 use plain_data::Plain;
 use quantity::Resources;
@@ -16,14 +22,6 @@ use running_clusters::{Awaited, ClusterFault, Given, Keep, KeptEntry, Running, S
 use std::alloc::Global;
 use std::sync::{Wait, ledger};
 use std::time::{Clock, Duration};
-
-/// What is left for the next turn stops nothing else.
-fn unless_later<F>(stop: Stop<F>) -> Result<(), Stop<F>> {
-    match stop {
-        Stop::Later => Ok(()),
-        stop => Err(stop),
-    }
-}
 
 /// The draft is open that an answer opened, if it did.
 fn opens(opened: &mut Option<Record>, answered: Answered<KeptEntry, Given>)
@@ -70,15 +68,35 @@ pub(crate) struct Worker<'a, D: Running, L: ledger::Ledger, R: Wait + Clock> {
     pub total: &'a Resources,
 }
 
+/// Two copies of an agent's name: one for a step of it, and one for its stop where it is down.
+#[derive(Drop)]
+pub(crate) struct Names {
+    step: AgentName,
+    stop: AgentName,
+}
+
 impl<'a, D: Running, L: ledger::Ledger, R: Wait + Clock> Worker<'a, D, L, R> {
     /// A copy of the agent's name.
-    fn name<F>(&self) -> Result<AgentName, Stop<F>>
-        ensures { IfOk result (λ name. name ≡ self.now.agent.now) }
+    pub fn name<F>(&self) -> Result<AgentName, Stop<F>>
+        ensures { MatchResult result (λ name. name ≡ self.now.agent.now) (λ stop. stop ≡ Later) }
     {
         match self.agent.copy() {
             Ok(name) => Ok(name),
             Err(_) => Err(Stop::Later),
         }
+    }
+
+    /// Two copies of it.
+    pub fn names<F>(&self) -> Result<Names, Stop<F>>
+        ensures step { IfOk result (λ names. names.step ≡ self.now.agent.now) }
+        ensures stop { IfOk result (λ names. names.stop ≡ self.now.agent.now) }
+        ensures later { IfErr result (λ stop. stop ≡ Later) }
+    {
+        let step = self.name()?;
+        Ok(Names {
+            step,
+            stop: self.name()?,
+        })
     }
 
     /// Takes a step at the office.
@@ -87,155 +105,170 @@ impl<'a, D: Running, L: ledger::Ledger, R: Wait + Clock> Worker<'a, D, L, R> {
         pass: &mut Pass<KeptEntry, L>,
         step: Step,
     ) -> Result<Answered<KeptEntry, Given>, OfficeFault<ClusterFault>>
-        ensures keeps { (saved : Durable → Bool)
-            → IsBehindSave D.is_taken saved (last_of None pass.old.receipts) step
-            → Keeps D.is_taken saved saved pass.old pass.new }
         ensures answered { IfOk result (λ a. Answers D.is_taken pass.old step a pass.new) }
+        ensures refused { IfErr result (λ fault. D.is_refused pass.old step fault) }
         ensures unchanged { OnErr result (pass.new ≡ pass.old) }
     {
         self.office.ask(self.rt, self.alloc, pass, step)
     }
 
-    /// The agent stops, and comes up over its record.
-    #[tactic(auto, using(crate::proofs::Saves::keeps_itself))]
-    pub fn stop_before<F>(
+    /// The agent of a name stops, and comes up over its own record, or over that of its open draft.
+    pub fn stop<F>(
         &self,
         pass: &mut Pass<KeptEntry, L>,
         opened: &mut Option<Record>,
         own: &mut Option<Record>,
+        name: AgentName,
+        keep: Keep,
     ) -> Result<(), Stop<F>>
         requires { IsOpen D.is_taken self.now.agent.now opened.old pass.old }
-        ensures keeps { (saved : Durable → Bool) → Keeps D.is_taken saved saved pass.old pass.new }
+        ensures stops { OnOk result
+            (IsAnswered D.is_taken (StopAgent name keep) pass.old pass.new) }
+        ensures refused { IfErr result
+            (λ stop. IsLeft D.is_refused (StopAgent name keep) stop pass.old pass.new) }
         ensures opened { IsOpen D.is_taken self.now.agent.now opened.new pass.new }
     {
-        let step = Step::StopAgent {
-            agent: self.name()?,
-            keep: Keep::Before,
-        };
-        match self.call(pass, step) {
+        match self.call(pass, Step::StopAgent { agent: name, keep }) {
             Ok(answered) => Ok(forgets(opened, own, answered)),
             Err(fault) => Err(stop_of(fault)),
         }
     }
 
-    /// The agent stops, and comes up over the record of its open draft, which was saved.
-    #[tactic(auto, using(crate::proofs::Saves::keeps_itself))]
-    pub fn stop_after<F>(
+    /// How the turn stops after a refusal of a step of the agent, of which this is the name. Where
+    /// the agent is down or has no draft it stops, comes up, and is to start at the next turn.
+    fn after<F>(
         &self,
         pass: &mut Pass<KeptEntry, L>,
         opened: &mut Option<Record>,
         own: &mut Option<Record>,
-    ) -> Result<(), Stop<F>>
-        requires { IsOpen D.is_taken self.now.agent.now opened.old pass.old }
-        ensures keeps { (saved : Durable → Bool)
-            → IsLastSaved D.is_taken saved self.now.agent.now pass.old
-            → Keeps D.is_taken saved saved pass.old pass.new }
-        ensures opened { IsOpen D.is_taken self.now.agent.now opened.new pass.new }
-    {
-        let step = Step::StopAgent {
-            agent: self.name()?,
-            keep: Keep::After,
-        };
-        match self.call(pass, step) {
-            Ok(answered) => Ok(forgets(opened, own, answered)),
-            Err(fault) => Err(stop_of(fault)),
-        }
-    }
-
-    /// The agent stops, and is to start at the next turn.
-    #[tactic(auto, using(crate::proofs::Saves::keeps_then))]
-    fn restart<F>(
-        &self,
-        pass: &mut Pass<KeptEntry, L>,
-        opened: &mut Option<Record>,
-        own: &mut Option<Record>,
+        fault: OfficeFault<ClusterFault>,
+        name: AgentName,
     ) -> Stop<F>
         requires { IsOpen D.is_taken self.now.agent.now opened.old pass.old }
-        ensures keeps { (saved : Durable → Bool) → Keeps D.is_taken saved saved pass.old pass.new }
+        ensures after { IsAfter D.is_taken D.is_refused name fault result pass.old pass.new }
         ensures opened { IsOpen D.is_taken self.now.agent.now opened.new pass.new }
     {
-        match self.stop_before(pass, opened, own) {
+        if !says_down(&fault) {
+            return stop_of(fault);
+        }
+        match self.stop(pass, opened, own, name, Keep::Before) {
             Ok(()) => Stop::Later,
             Err(stop) => stop,
         }
     }
 
-    /// The record of the agent's open draft, which was saved, becomes its own.
-    /// An agent that is down or has no draft stops, and comes up.
-    #[tactic(auto, using(crate::proofs::Saves::keeps_itself, crate::proofs::Saves::keeps_then))]
+    /// Takes a step of the agent, of which this is the name.
+    fn take<F>(
+        &self,
+        pass: &mut Pass<KeptEntry, L>,
+        opened: &mut Option<Record>,
+        own: &mut Option<Record>,
+        step: Step,
+        name: AgentName,
+    ) -> Result<Answered<KeptEntry, Given>, Stop<F>>
+        requires { IsOpen D.is_taken self.now.agent.now opened.old pass.old }
+        ensures taken { IfOk result (λ a. Answers D.is_taken pass.old step a pass.new) }
+        ensures refused { IfErr result
+            (λ stop. IsRefused D.is_taken D.is_refused name step stop pass.old pass.new) }
+        ensures same { OnOk result (opened.new ≡ opened.old) }
+        ensures opened { OnErr result
+            (IsOpen D.is_taken self.now.agent.now opened.new pass.new) }
+        ensures over { IfErr result (λ stop. stop ≡ Ended
+            → IsOver D.history D.sound D.record_of D.is_refused self.now.agent.now pass.new) }
+    {
+        match self.call(pass, step) {
+            Ok(answered) => Ok(answered),
+            Err(fault) => Err(self.after(pass, opened, own, fault, name)),
+        }
+    }
+
+    /// The record of the agent's open draft becomes its own: it is to be saved before.
     pub fn commit<F>(
         &self,
         pass: &mut Pass<KeptEntry, L>,
         opened: &mut Option<Record>,
         own: &mut Option<Record>,
+        names: Names,
     ) -> Result<(), Stop<F>>
         requires { IsOpen D.is_taken self.now.agent.now opened.old pass.old }
-        ensures keeps { (saved : Durable → Bool)
-            → IsLastSaved D.is_taken saved self.now.agent.now pass.old
-            → Keeps D.is_taken saved saved pass.old pass.new }
+        ensures commits { OnOk result
+            (IsAnswered D.is_taken (Commit names.step) pass.old pass.new) }
+        ensures refused { IfErr result (λ stop. IsRefused D.is_taken D.is_refused names.stop
+            (Commit names.step) stop pass.old pass.new) }
         ensures opened { IsOpen D.is_taken self.now.agent.now opened.new pass.new }
         ensures own { OnOk result (own.new ≡ opened.old) }
+        ensures over { IfErr result (λ stop. stop ≡ Ended
+            → IsOver D.history D.sound D.record_of D.is_refused self.now.agent.now pass.new) }
     {
-        let step = Step::Commit(self.name()?);
-        match self.call(pass, step) {
+        let Names { step, stop } = names;
+        match self.take(pass, opened, own, Step::Commit(step), stop) {
             Ok(answered) => Ok(adopts(opened, own, answered)),
-            Err(OfficeFault::Core(ClusterFault::AgentDown | ClusterFault::NoDraft)) => {
-                Err(self.restart(pass, opened, own))
-            }
-            Err(fault) => Err(stop_of(fault)),
+            Err(stop) => Err(stop),
         }
     }
 
     /// Opens a draft of what a cause makes of the agent, whose record the answer has.
-    /// An agent that is down stops, and comes up.
-    #[tactic(auto, using(crate::proofs::Saves::keeps_itself, crate::proofs::Saves::keeps_then))]
     pub fn prepare<F>(
         &self,
         pass: &mut Pass<KeptEntry, L>,
         opened: &mut Option<Record>,
         own: &mut Option<Record>,
+        names: Names,
         cause: StepCause,
     ) -> Result<(), Stop<F>>
-        requires { opened.old ≡ None }
-        ensures keeps { (saved : Durable → Bool) → Keeps D.is_taken saved saved pass.old pass.new }
+        requires none { opened.old ≡ None }
+        requires name { names.step ≡ self.now.agent.now }
+        ensures prepares { OnOk result
+            (IsAnswered D.is_taken (Prepare names.step cause) pass.old pass.new) }
+        ensures refused { IfErr result (λ stop. IsRefused D.is_taken D.is_refused names.stop
+            (Prepare names.step cause) stop pass.old pass.new) }
         ensures opened { IsOpen D.is_taken self.now.agent.now opened.new pass.new }
+        ensures over { IfErr result (λ stop. stop ≡ Ended
+            → IsOver D.history D.sound D.record_of D.is_refused self.now.agent.now pass.new) }
     {
-        let step = Step::Prepare {
-            agent: self.name()?,
-            cause,
-        };
-        match self.call(pass, step) {
+        let Names { step, stop } = names;
+        let step = Step::Prepare { agent: step, cause };
+        match self.take(pass, opened, own, step, stop) {
             Ok(answered) => Ok(opens(opened, answered)),
-            Err(OfficeFault::Core(ClusterFault::AgentDown)) => {
-                Err(self.restart(pass, opened, own))
-            }
-            Err(fault) => Err(stop_of(fault)),
+            Err(stop) => Err(stop),
         }
     }
 
-    /// The first mail from the agent that waits; none where the office is finished.
+    /// Waits for what is awaited, for so long at most, until a look at the office finds something.
+    pub fn wait<T: Drop, F, G: Fn(&D) -> Result<Option<T>, ClusterFault>>(
+        &self,
+        pass: &Pass<KeptEntry, L>,
+        awaited: Awaited,
+        time: Duration,
+        look: G,
+    ) -> Result<T, Stop<F>>
+        requires { G.IsAlwaysCallable look }
+        ensures found { IfOk result (λ found. IsSeen D.history D.sound
+            (λ c. FnReturnsAt G.Fn look c (Ok (Some found)))) }
+        ensures over { IfErr result (λ stop. stop ≡ Ended → IsShut D.history D.sound
+            (λ c. FnReturnsAt G.Fn look c (Err NoSuchAgent)) pass.now) }
+    {
+        found(self.office.wait_for(self.rt, pass, awaited, time, look))
+    }
+
+    /// The first mail from the agent that waits.
     fn first_sent<F>(&self, pass: &Pass<KeptEntry, L>) -> Result<Option<u64>, Stop<F>>
-        ensures { IfOk result (λ mail. IfSome mail (λ number. IsSeen D.history D.sound
-            (λ c. D.is_first_from c self.now.agent.now (Some number)))) }
+        ensures seen { IfOk result (λ mail. IsSeen D.history D.sound
+            (λ c. D.is_first_from c self.now.agent.now mail)) }
+        ensures over { IfErr result (λ stop. stop ≡ Ended
+            → IsOver D.history D.sound D.record_of D.is_refused self.now.agent.now pass.now) }
     {
         let agent = self.agent;
-        let look = |cluster: &D| Ok(cluster.first_mail_from(agent));
-        let mails = Awaited::mails_to(agent);
-        match self
-            .office
-            .wait_for(self.rt, pass, mails, Duration::ZERO, look)
-        {
-            Ok(Waited::Found(number)) => Ok(Some(number)),
-            Ok(_) => Ok(None),
-            Err(fault) => Err(stop_of(fault)),
-        }
+        let look = |cluster: &D| Ok(Some(cluster.first_mail_from(agent)));
+        self.wait(pass, Awaited::mails_to(agent), Duration::ZERO, look)
     }
 
     /// The master takes the agent's mails, in their order.
     /// After one that is refused the others wait with it.
-    #[tactic(auto, using(crate::proofs::Saves::keeps_itself, crate::proofs::Saves::keeps_then))]
     pub fn deliver<F>(&self, pass: &mut Pass<KeptEntry, L>) -> Result<(), Stop<F>>
-        ensures { (saved : Durable → Bool) → Keeps D.is_taken saved saved pass.old pass.new }
+        ensures delivered { HasDelivered pass.old pass.new }
+        ensures over { IfErr result (λ stop. stop ≡ Ended
+            → IsOver D.history D.sound D.record_of D.is_refused self.now.agent.now pass.new) }
     {
         for _ in self.rt.forever() {
             let Some(number) = self.first_sent(pass)? else {
@@ -255,23 +288,23 @@ impl<'a, D: Running, L: ledger::Ledger, R: Wait + Clock> Worker<'a, D, L, R> {
         pass: &Pass<KeptEntry, L>,
         time: Duration,
     ) -> Result<Option<u64>, Stop<F>>
-        ensures { IfOk result (λ mail. IsSeen D.history D.sound
+        ensures seen { IfOk result (λ mail. IsSeen D.history D.sound
             (λ c. D.is_first_to c self.now.agent.now mail)) }
+        ensures over { IfErr result (λ stop. stop ≡ Ended
+            → IsOver D.history D.sound D.record_of D.is_refused self.now.agent.now pass.now) }
     {
-        match self.office.wait_mail(self.rt, pass, self.agent, time) {
-            Ok(Wake::Mail(number)) => Ok(Some(number)),
-            Ok(Wake::Turn) => Ok(None),
-            Ok(Wake::Finished) => Err(Stop::Ended),
-            Err(fault) => Err(stop_of(fault)),
-        }
+        mail_found(self.office.wait_mail(self.rt, pass, self.agent, time))
     }
 
-    /// Waits for a second, and returns whether the activity goes on.
-    pub fn pause(&self, pass: &Pass<KeptEntry, L>) -> bool {
+    /// Waits for a second, unless the activity ends.
+    pub fn pause<F>(&self, pass: &Pass<KeptEntry, L>) -> Result<(), Stop<F>>
+        ensures { IfErr result (λ stop. stop ≡ Ended
+            → IsOver D.history D.sound D.record_of D.is_refused self.now.agent.now pass.now) }
+    {
         let look = |_: &D| -> Result<Option<()>, ClusterFault> { Ok(None) };
-        match self.office.wait_for(self.rt, pass, Awaited::time(), Duration::from_secs(1), look) {
-            Ok(Waited::Finished) | Err(_) => false,
-            Ok(_) => true,
+        match self.wait(pass, Awaited::time(), Duration::from_secs(1), look) {
+            Ok(()) => Ok(()),
+            Err(stop) => unless_later(stop),
         }
     }
 }

@@ -46,11 +46,11 @@ fn of_session_77(alloc: Global, record: Record) -> Result<Option<Record>, AllocE
 }
 
 impl Cabinet for Shelf {
-    ghost use Rattle.std.specs.Prelude.{true};
+    ghost use Rattle.std.specs.Prelude.{⊤};
 
     type Fault = AllocError;
 
-    ghost saved = { λ _ _. true };
+    ghost keeps = { λ _ _. ⊤ };
 
     fn save(&mut self, _alloc: Global, durable: &Record) -> Result<(), AllocError> {
         self.saves = self.saves.saturating_add(1);
@@ -143,11 +143,11 @@ impl<'a> Held<'a> {
 }
 
 impl<'a> Cabinet for Held<'a> {
-    ghost use Rattle.std.specs.Prelude.{true};
+    ghost use Rattle.std.specs.Prelude.{⊤};
 
     type Fault = AllocError;
 
-    ghost saved = { λ _ _. true };
+    ghost keeps = { λ _ _. ⊤ };
 
     fn save(&mut self, _alloc: Global, _durable: &Record) -> Result<(), AllocError> {
         if self.passes > 0 {

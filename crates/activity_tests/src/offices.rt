@@ -2,6 +2,7 @@
 
 ghost use Rattle.std.specs.Prelude.{◌≡◌, [], IfSome};
 
+use crate::falls::FallingCluster;
 use cluster_core::{Cluster, Config, KeptEntry, fresh_agents_open, fresh_records};
 use desk_lock::{Desk, Office, Pass, Waited};
 use master_core::ConfiguredAgents;
@@ -90,6 +91,25 @@ pub fn office<L: ledger::Ledger>(
 {
     match recorded_of(alloc, names) {
         Some(recorded) => Some(Office::new(Desk::<_, L>::new(alloc, recorded, blank))),
+        None => None,
+    }
+}
+
+/// The same, whose agents are down once the history has so many entries.
+pub fn falling_office<L: ledger::Ledger>(
+    alloc: Global,
+    blank: Blank,
+    names: &[&str],
+    falls_at: u32,
+) -> Option<Office<FallingCluster, L>>
+    requires name { blank.name ≡ L.name }
+    requires parts { (blank.parts ≡ L.parts) × (blank.parts ≡ 4294967296) }
+{
+    match recorded_of(alloc, names) {
+        Some(recorded) => {
+            let falling = FallingCluster::new(recorded, falls_at);
+            Some(Office::new(Desk::<_, L>::new(alloc, falling, blank)))
+        }
         None => None,
     }
 }

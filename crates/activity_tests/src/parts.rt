@@ -5,7 +5,7 @@ ghost use Rattle.std.specs.Prelude.{◌≡◌, []};
 use crate::cabinets::{Flags, Held, Shelf};
 use crate::framework::{launch, stop};
 use crate::offices::{OWNED, cpus, seat, wait_for_entries};
-use activities::{ActivityFault, Cabinet, activity, ticker};
+use activities::{ActivityFault, Cabinet, Stopwatch, activity, ticker};
 use cluster_core::{Keep, KeptEntry, Step, StepCause};
 use desk_lock::{Office, Pass};
 use mails::ExecutorState;
@@ -194,7 +194,11 @@ fn play_out<D: Running, L: ledger::Ledger, R: Wait + Clock>(
             }
             worked
         }
-        Part::Ticker => Ok((ticker(rt, alloc, office, pass, 1), End::Finished)),
+        Part::Ticker => {
+            let mut seconds = Stopwatch::new(rt);
+            let pass = ticker(rt, alloc, office, pass, &mut seconds, 1);
+            Ok((pass, End::Finished))
+        }
         Part::Launcher { flags, stops, end } => {
             let end = lead(rt, alloc, office, &mut pass, flags, stops, end);
             Ok((pass, end))

@@ -81,11 +81,11 @@ fn is_lost(found: &Option<Record>, lost: &Option<Record>) -> bool {
 }
 
 impl Cabinet for MemoryStore {
-    ghost use Rattle.std.specs.Prelude.{true};
+    ghost use Rattle.std.specs.Prelude.{⊤};
 
     type Fault = AllocError;
 
-    ghost saved = { λ _ _. true };
+    ghost keeps = { λ _ _. ⊤ };
 
     fn save(&mut self, alloc: Global, durable: &Record) -> Result<(), AllocError> {
         let calls = self.calls();

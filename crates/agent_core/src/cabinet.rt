@@ -1,6 +1,6 @@
 //! Where an agent's record is kept.
 
-ghost use Rattle.std.specs.Prelude.{◌≡◌, Bool, true, IfOk, IfSome, OnOk};
+ghost use Rattle.std.specs.Prelude.{Option, Some, IfOk, OnOk};
 ghost use Rattle.mails.specs.declared.record.Durable.{Durable};
 
 use crate::record::Record;
@@ -11,17 +11,15 @@ pub trait Cabinet {
     /// Why a call fails.
     type Fault: Drop;
 
-    /// Whether a record is known to have been kept.
-    ghost saved: { Self → Durable → Bool };
+    /// It keeps this record, or none.
+    ghost keeps: { Self → Option Durable → Type 0 };
 
     /// Keeps a record in place of the one before. After a fault it may keep either of the two:
     /// then it is to be opened again.
     fn save(&mut self, alloc: Global, durable: &Record) -> Result<(), Self::Fault>
-        ensures kept { OnOk result (saved self.new durable.now ≡ true) }
-        ensures before { (d : Durable) → saved self.old d ≡ true → saved self.new d ≡ true };
+        ensures { OnOk result (keeps self.new (Some durable.now)) };
 
     /// Opens it again, and returns the record that it keeps; None where none was ever kept.
     fn reopen(&mut self, alloc: Global) -> Result<Option<Record>, Self::Fault>
-        ensures found { IfOk result (λ kept. IfSome kept (λ d. saved self.new d ≡ true)) }
-        ensures before { (d : Durable) → saved self.old d ≡ true → saved self.new d ≡ true };
+        ensures { IfOk result (keeps self.new) };
 }

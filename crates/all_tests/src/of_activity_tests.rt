@@ -44,6 +44,16 @@ fn a_stop_in_a_save(rt: HostRuntime) {
 }
 
 #[test]
+fn an_agent_down_at_a_commit(rt: HostRuntime) {
+    assert!(rt; tests::an_agent_down_at_a_commit(&rt, rt.alloc()));
+}
+
+#[test]
+fn an_agent_down_at_a_prepare(rt: HostRuntime) {
+    assert!(rt; tests::an_agent_down_at_a_prepare(&rt, rt.alloc()));
+}
+
+#[test]
 fn a_larger_total(rt: HostRuntime) {
     assert!(rt; tests::a_larger_total(&rt, rt.alloc()));
 }

@@ -5,3 +5,5 @@ pub mod FoundLemmas
 pub mod HeadLemmas
 pub mod KnownLemmas
 pub mod RunLemmas
+pub mod AddLemmas
+pub mod CheckLemmas

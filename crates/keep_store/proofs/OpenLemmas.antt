@@ -1,5 +1,5 @@
 -- A database that lists our tables is not one that lists none, two or four.
-use Rattle.std.proofs.Common.{◌≢◌, List, [], ◌∷◌, subst}
+use Rattle.std.proofs.Common.{◌≡◌, ◌≢◌, List, [], ◌∷◌, Option, Some, IsSomeAnd, subst, sym}
 use Rattle.std.specs.List.{AllZip}
 use Rattle.sqlite.specs.Tree.{Trees}
 use Rattle.sqlite.specs.Schema.{Schema}
@@ -34,3 +34,6 @@ not_first db s ours sound e = two_or_five _ _ _ _ _ _ _ _ _ _ (subst (λ t. IsSo
 
 pub not_second : (db : Trees) (s : Schema) → IsSound keeper_schema db → IsSound s db → s ≢ second_schema
 not_second db s ours sound e = four_or_five _ _ _ _ _ _ _ _ _ _ _ _ (subst (λ t. IsSound t db) e sound).lists.listed.tables ours.lists.listed.tables
+
+pub some_and : {X : Type 0} (o : Option X) (x : X) (P : X → Type 0) → o ≡ Some x → P x → IsSomeAnd o P
+some_and {X = X} o x P is h = subst (λ (it : Option X). IsSomeAnd it P) (sym is) h

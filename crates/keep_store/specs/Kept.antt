@@ -1,17 +1,22 @@
 -- What an opened store keeps of an older form, and what is read of what a store keeps.
-use Rattle.std.specs.Prelude.{◌≡◌, ◌≢◌, ◌<◌, ◌^◌, ⊤, ℕ, suc, true, List, [], ◌∷◌, Option, Some, None, pos}
+use Rattle.std.specs.Prelude.{◌≡◌, ◌≢◌, ◌⊎◌, ◌<◌, ◌^◌, ⊤, ℕ, suc, true, false, List, [], ◌∷◌, Option, Some, None, pos}
 use Rattle.std.specs.Str.{IsUtf8}
 use Rattle.std.specs.Option.{MatchOption}
 use Rattle.sqlite.specs.declared.types.Value.{Value}
 use Rattle.sqlite.specs.declared.types.Value.TheVariants.{Int, Text}
 use Rattle.sqlite.specs.Order.{Row, column}
 use Rattle.sqlite.specs.Tree.{Trees}
+use Rattle.sqlite.specs.Schema.{Schema}
+use Rattle.sqlite.specs.Effect.{Database}
+use Rattle.sqlite.specs.State.{State}
+use Rattle.sqlite_catalog.specs.Listing.{IsSound}
 use Rattle.sqlite_rules.specs.Lists.{Has}
 use Rattle.mails.specs.declared.record.RecordedTask.{RecordedTask}
 use Rattle.mails.specs.declared.record.Durable.{Durable}
 use Rattle.record_text.specs.Written.{IsWritten}
 use Rattle.agent_core.specs.Records.{is_record}
-use Rattle.record_saves.specs.Kept.{Kept, body_in, last_in, read_back, whole, with_last, IsRowOf}
+use Rattle.keep_rows.specs.Tables.{AddsTotals, AreLone, IsCommitted, IsLone, first_schema, second_schema, keeper_schema, no_schema}
+use Rattle.record_saves.specs.Kept.{Kept, body_in, kept_in, last_in, read_back, whole, with_last, IsRowOf}
 
 -- the value of the row of a table of an id and a value
 abbrev pub value_in : List Row → Option Value
@@ -29,6 +34,23 @@ first_kept db = record { body = value_in (db 0); last = last_in (db 1) }
 -- no record, and no run assigned
 abbrev pub nothing : Kept
 nothing = record { body = None; last = 0 }
+
+-- what a database of a known layout keeps
+abbrev pub Keeps : Schema → Trees → Kept → Type 0
+Keeps schema db kept =
+    ((schema ≡ no_schema) × (kept ≡ nothing))
+    ⊎ (((schema ≡ first_schema) × IsLone (db 0) × IsLone (db 1) × (kept ≡ first_kept db))
+    ⊎ (((schema ≡ second_schema) × AreLone db × (kept ≡ second_kept db))
+    ⊎ ((schema ≡ keeper_schema) × AreLone db × (kept ≡ kept_in db))))
+
+-- the trees list tables, and the database that they are is such a one
+abbrev pub ReadsAs : Trees → (Database → Type 0) → Type 0
+ReadsAs db Is = (schema : Schema) × IsSound schema db × Is (record { schema = schema; trees = db })
+
+-- what a database keeps that is of a known layout, these trees keep too, in a known layout
+abbrev pub StillKeeps : Database → Trees → Type 0
+StillKeeps old db =
+    (kept : Kept) → Keeps old.schema old.trees kept → ReadsAs db (λ d. Keeps d.schema d.trees kept)
 
 -- with one run more assigned
 abbrev pub with_run : Kept → Kept
@@ -89,3 +111,49 @@ SomeUnreadable rows = (row : Row) × Has rows row × (read_back row ≡ None)
 -- a row is at the place of the task that it is read as
 abbrev pub IsPlaced : Row → Type 0
 IsPlaced row = (task : RecordedTask) → read_back row ≡ Some task → IsRowOf row task
+
+-- ---- for private clauses: the tables that lack are made
+
+-- where the tables are those before and no transaction is open, one was committed that left those
+-- after; else the database is as it was
+abbrev pub MakesIf : Schema → Schema → (Trees → Trees → Type 0) → State → State → Type 0
+MakesIf before after Adds old new =
+    ((old.now.schema ≡ before) × IsCommitted after Adds old new)
+    ⊎ ((old.in_transaction ≡ false → old.now.schema ≢ before) × (new.now ≡ old.now)
+    × (new.in_transaction ≡ old.in_transaction))
+
+-- what a stop leaves of the transaction
+abbrev pub LeavesIf : Schema → Schema → (Trees → Trees → Type 0) → Database → Trees → Type 0
+LeavesIf before after Adds old db =
+    (old.schema ≡ before) × IsSound after db × Adds old.trees db
+
+-- no table has a row
+pub record HasNothing (db : Trees) : Type 0 where
+  pub records : db 0 ≡ []
+  pub runs : db 1 ≡ []
+  pub heads : db 2 ≡ []
+  pub tasks : db 3 ≡ []
+  pub totals : db 5 ≡ []
+
+-- the tables of heads, of tasks and of totals are new beside those of records and runs
+pub record AddsRows (old new : Trees) : Type 0 where
+  pub records : new 0 ≡ old 0
+  pub runs : new 1 ≡ old 1
+  pub heads : new 2 ≡ []
+  pub tasks : new 3 ≡ []
+  pub totals : new 5 ≡ []
+
+-- the tables lack none, or aren't a keeper's
+abbrev pub LacksNone : Schema → Type 0
+LacksNone schema = (schema ≢ no_schema) × (schema ≢ first_schema) × (schema ≢ second_schema)
+
+-- the tables are there that lacked, or none lacked or a transaction was open,
+-- and then the database is as it was
+abbrev pub Completes : State → State → Type 0
+Completes old new =
+    ((old.now.schema ≡ no_schema) × (new.now.schema ≡ keeper_schema) × HasNothing new.now.trees)
+    ⊎ (((old.now.schema ≡ first_schema) × (new.now.schema ≡ keeper_schema)
+    × AddsRows old.now.trees new.now.trees)
+    ⊎ (((old.now.schema ≡ second_schema) × (new.now.schema ≡ keeper_schema)
+    × AddsTotals old.now.trees new.now.trees)
+    ⊎ ((old.in_transaction ≡ false → LacksNone old.now.schema) × (new.now ≡ old.now))))

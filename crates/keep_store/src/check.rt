@@ -1,101 +1,89 @@
-//! Whether a connection shows a keeper's tables.
+//! Whether a connection shows a keeper's tables, once those are made that lack.
 
-ghost use Rattle.std.specs.Prelude.{◌≡◌, ◌≢◌, length, IsTrue, Ok, IfOk, IfErr, OnOk};
-ghost use Rattle.sqlite.specs.State.{HasCleanDisk};
+ghost use Rattle.std.specs.Prelude.{◌≡◌, ◌≢◌, true, false, Ok, IfErr, OnOk, IsErrOf, pos};
+ghost use Rattle.sqlite.specs.declared.types.Value.TheVariants.{Int};
+ghost use Rattle.sqlite.specs.Tree.{rowid};
+ghost use Rattle.sqlite.specs.State.{HasCleanDisk, Survives};
 ghost use Rattle.sqlite.specs.Held.{state};
 ghost use Rattle.record_saves.specs.Kept.{kept_in};
-ghost use Rattle.keep_store.specs.Kept.{first_kept, nothing, second_kept};
-ghost use Rattle.keep_rows.specs.Tables.{IsReady, IsLone, HasNoRow, first_schema, second_schema, no_schema};
+ghost use Rattle.keep_store.specs.Kept.{StillKeeps, first_kept, nothing, second_kept};
+ghost use Rattle.keep_rows.specs.Tables.{HasKnownTables, IsKnown, IsLone, IsOurs, IsReady, first_schema, second_schema, keeper_schema, no_schema};
 
-use keep_rows::KeepFault;
-use keep_rows::statements::{
-    make_first_tables, make_task_tables, make_total_table, read_amounts, read_head_ids,
-    read_record_ids, read_run_ids, read_tasks,
-};
-use keep_tables::{is_first, is_new, is_ours, is_second};
+use crate::adding::add_tables;
+use keep_rows::statements::{read_head_ids, read_record_ids, read_run_ids};
+use keep_rows::{KeepFault, number_at};
+use keep_tables::is_ours;
 use record_saves::fault::fault_of;
 use sqlite::{Alter, Connection, Error, Row};
 
-/// At most one row, which begins with 1.
-fn is_lone(rows: &[Row]) -> bool
-    ensures { IsTrue result → IsLone rows.now }
+/// Refuses a row that doesn't begin with 1.
+fn check_id(row: &Row) -> Result<(), KeepFault>
+    ensures one { OnOk result (rowid row.now ≡ Int (pos 1)) }
+    ensures damaged { IsErrOf result KeepFault.Damaged → rowid row.now ≢ Int (pos 1) }
+    ensures unspent { IfErr result (λ e. e ≢ KeepFault.RunsSpent) }
+{
+    match number_at(row, 0) {
+        Ok(1) => Ok(()),
+        Ok(_) => Err(KeepFault::Damaged),
+        Err(fault) => Err(fault),
+    }
+}
+
+/// Refuses more than one row, and one that doesn't begin with 1.
+fn check_lone(rows: &[Row]) -> Result<(), KeepFault>
+    ensures lone { OnOk result (IsLone rows.now) }
+    ensures damaged { IsErrOf result KeepFault.Damaged → IsLone rows.now → ⊥ }
+    ensures unspent { IfErr result (λ e. e ≢ KeepFault.RunsSpent) }
 {
     match rows {
-        [] => true,
-        [row] => row.get::<u32>(0) == Ok(1),
-        _ => false,
+        [] => Ok(()),
+        [row] => check_id(row),
+        _ => Err(KeepFault::Damaged),
     }
 }
 
-/// Whether a table of at most one row has none, by the ids that were read of its rows.
-fn has_none(read: Result<Vec<Row>, Error>) -> Result<bool, KeepFault>
-    ensures lone { IfOk result (λ none. (rows : _) × (read ≡ Ok rows) × IsLone rows.items
-        × (IsTrue none → length rows.items ≡ 0)) }
+/// Refuses a table that has more than the row 1, by the ids that were read of its rows.
+fn check_ids(read: Result<Vec<Row>, Error>) -> Result<(), KeepFault>
+    ensures lone { OnOk result ((rows : _) × (read ≡ Ok rows) × IsLone rows.items) }
+    ensures damaged { IsErrOf result KeepFault.Damaged
+        → (rows : _) × (read ≡ Ok rows) × (IsLone rows.items → ⊥) }
     ensures unspent { IfErr result (λ e. e ≢ KeepFault.RunsSpent) }
 {
     match read {
-        Ok(rows) if is_lone(rows.as_slice()) => Ok(rows.is_empty()),
-        Ok(_) => Err(KeepFault::Damaged),
-        Err(error) => Err(fault_of(error)),
-    }
-}
-
-/// Whether a table has no row, by those that were read of it.
-fn has_no_row(read: Result<Vec<Row>, Error>) -> Result<bool, KeepFault>
-    ensures rows { IfOk result (λ none. (rows : _) × (read ≡ Ok rows)
-        × (IsTrue none → length rows.items ≡ 0)) }
-    ensures unspent { IfErr result (λ e. e ≢ KeepFault.RunsSpent) }
-{
-    match read {
-        Ok(rows) => Ok(rows.is_empty()),
+        Ok(rows) => check_lone(rows.as_slice()),
         Err(error) => Err(fault_of(error)),
     }
 }
 
 /// The five tables are there and no other,
-/// with at most one row each but those of tasks and of amounts; and whether those are empty.
-fn check_tables<S: Alter>(conn: &mut Connection<S>) -> Result<bool, KeepFault>
+/// with at most one row each but those of tasks and of amounts, and no transaction is open.
+fn check_tables<S: Alter>(conn: &mut Connection<S>) -> Result<(), KeepFault>
     ensures clean { HasCleanDisk (state S.Store conn.new) → HasCleanDisk (state S.Store conn.old) }
     ensures ready { HasCleanDisk (state S.Store conn.new)
         → OnOk result (IsReady (state S.Store conn.new)) }
     ensures found { HasCleanDisk (state S.Store conn.new)
         → OnOk result ((state S.Store conn.new).now ≡ (state S.Store conn.old).now) }
-    ensures empty { HasCleanDisk (state S.Store conn.new)
-        → IfOk result (λ empty. IsTrue empty → HasNoRow (state S.Store conn.new).now.trees) }
+    ensures damaged { HasCleanDisk (state S.Store conn.new) → IsErrOf result KeepFault.Damaged
+        → (state S.Store conn.old).in_transaction ≡ false
+        → IsOurs (state S.Store conn.old).now → ⊥ }
+    ensures other { (state S.Store conn.old).now.schema ≢ keeper_schema
+        → IsErrOf result KeepFault.Damaged × (conn.new ≡ conn.old) }
+    ensures inside { (state S.Store conn.old).in_transaction ≡ true
+        → IsErrOf result KeepFault.Damaged × (conn.new ≡ conn.old) }
     ensures unspent { IfErr result (λ e. e ≢ KeepFault.RunsSpent) }
+    ensures stop { Survives (state S.Store conn.old) (state S.Store conn.new) (λ _. ⊥) }
 {
     if !conn.is_autocommit() || !is_ours(conn.schema()) {
         return Err(KeepFault::Damaged);
     }
-    let no_record = has_none(read_record_ids(conn))?;
-    let no_run = has_none(read_run_ids(conn))?;
-    let no_head = has_none(read_head_ids(conn))?;
-    Ok(no_record & no_run & no_head)
-}
-
-/// The five tables are there, and none has a row.
-fn check_new<S: Alter>(conn: &mut Connection<S>) -> Result<(), KeepFault>
-    ensures clean { HasCleanDisk (state S.Store conn.new) → HasCleanDisk (state S.Store conn.old) }
-    ensures ready { HasCleanDisk (state S.Store conn.new)
-        → OnOk result (IsReady (state S.Store conn.new)) }
-    ensures fresh { HasCleanDisk (state S.Store conn.new)
-        → OnOk result (kept_in (state S.Store conn.new).now.trees ≡ nothing) }
-    ensures unspent { IfErr result (λ e. e ≢ KeepFault.RunsSpent) }
-{
-    let is_empty = check_tables(conn)?;
-    let no_task = has_no_row(read_tasks(conn))?;
-    let no_amount = has_no_row(read_amounts(conn))?;
-    let is_new = is_empty & no_task & no_amount;
-    if is_new {
-        Ok(())
-    } else {
-        Err(KeepFault::Damaged)
-    }
+    check_ids(read_record_ids(conn))?;
+    check_ids(read_run_ids(conn))?;
+    check_ids(read_head_ids(conn))?;
+    Ok(())
 }
 
 /// Makes the tables that a new store lacks, one that kept a record as one text,
-/// or one that kept a total in its head, and tests them.
-#[tactic(auto, using(crate::proofs::MoveLemmas::first_moved, crate::proofs::MoveLemmas::second_moved))]
+/// or one that kept a total in its head, and checks them.
 pub fn prepare<S: Alter>(conn: &mut Connection<S>) -> Result<(), KeepFault>
     ensures clean { HasCleanDisk (state S.Store conn.new) → HasCleanDisk (state S.Store conn.old) }
     ensures ready { HasCleanDisk (state S.Store conn.new)
@@ -116,23 +104,21 @@ pub fn prepare<S: Alter>(conn: &mut Connection<S>) -> Result<(), KeepFault>
         → (state S.Store conn.old).now.schema ≡ second_schema
         → OnOk result (kept_in (state S.Store conn.new).now.trees
         ≡ second_kept (state S.Store conn.old).now.trees) }
+    ensures was_known { HasCleanDisk (state S.Store conn.new)
+        → OnOk result (IsKnown (state S.Store conn.old).now) }
+    ensures known { HasCleanDisk (state S.Store conn.new)
+        → (state S.Store conn.old).in_transaction ≡ false → IsKnown (state S.Store conn.old).now
+        → IfErr result (λ e. e ≢ KeepFault.Damaged) }
+    ensures unknown { (HasKnownTables (state S.Store conn.old).now.schema → ⊥)
+        → IsErrOf result KeepFault.Damaged × (conn.new ≡ conn.old) }
+    ensures inside { (state S.Store conn.old).in_transaction ≡ true
+        → IsErrOf result KeepFault.Damaged × (conn.new ≡ conn.old) }
+    ensures stop { Survives (state S.Store conn.old) (state S.Store conn.new)
+        (StillKeeps (state S.Store conn.old).now) }
     ensures unspent { IfErr result (λ e. e ≢ KeepFault.RunsSpent) }
 {
-    let is_new = is_new(conn.schema());
-    let lacks_tasks = is_new || is_first(conn.schema());
-    let lacks_totals = lacks_tasks || is_second(conn.schema());
-    if is_new && conn.is_autocommit() {
-        make_first_tables(conn).map_err(fault_of)?;
+    match add_tables(conn) {
+        Ok(()) => check_tables(conn),
+        Err(error) => Err(fault_of(error)),
     }
-    if lacks_tasks && conn.is_autocommit() {
-        make_task_tables(conn).map_err(fault_of)?;
-    }
-    if lacks_totals && conn.is_autocommit() {
-        make_total_table(conn).map_err(fault_of)?;
-    }
-    if is_new {
-        return check_new(conn);
-    }
-    check_tables(conn)?;
-    Ok(())
 }

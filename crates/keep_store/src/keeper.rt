@@ -1,6 +1,6 @@
 //! Keepers.
 
-ghost use Rattle.std.specs.Prelude.{◌≡◌, ◌≢◌, ◌≤◌, ◌+◌, true, suc, Some, None, if◌then◌else◌, IfOk, IfErr, OnOk, OnErr, IsErrOf, option_map, string_bytes};
+ghost use Rattle.std.specs.Prelude.{◌≡◌, ◌≢◌, ◌≤◌, ◌+◌, true, false, suc, Some, None, if◌then◌else◌, IfOk, IfErr, IsErrAnd, MatchResult, OnOk, OnErr, IsErrOf, option_map, string_bytes};
 ghost use Rattle.std.specs.Str.{IsUtf8};
 ghost use Rattle.sqlite.specs.declared.types.Value.TheVariants.{Text};
 ghost use Rattle.sqlite.specs.State.{HasCleanDisk, Survives};
@@ -10,9 +10,9 @@ ghost use Rattle.agent_core.specs.Records.{is_record};
 ghost use Rattle.record_text.specs.Texts.{record_form};
 ghost use Rattle.record_text.specs.Written.{IsDurable};
 ghost use Rattle.record_saves.specs.Kept.{kept_in, with_record};
-ghost use Rattle.keep_store.specs.Kept.{first_kept, nothing, second_kept, with_run, HoldsText, IsDamaged, IsLoaded, HoldsRun, HoldsNoRun, run_in, shown_body, shown_last};
+ghost use Rattle.keep_store.specs.Kept.{StillKeeps, first_kept, nothing, second_kept, with_run, HoldsText, IsDamaged, IsLoaded, HoldsRun, HoldsNoRun, run_in, shown_body, shown_last};
 ghost use Rattle.record_saves.specs.Stops.{LeavesEither, Stands};
-ghost use Rattle.keep_rows.specs.Tables.{IsReady, Stays, first_schema, second_schema, no_schema};
+ghost use Rattle.keep_rows.specs.Tables.{HasKnownTables, IsKnown, IsReady, Stays, first_schema, second_schema, no_schema};
 ghost use Rattle.keep_rows.specs.declared.fault.KeepFault.TheVariants as faults;
 
 use crate::check::prepare;
@@ -124,7 +124,8 @@ impl<S: Alter + Drop> Keeper<S> {
     /// are lacking beside the two of a store that kept a record as one text, and beside the four of
     /// one that kept a total in its head. A refusal returns the connection: K1 for an error of
     /// the store, K2 where the tables aren't those of a keeper or the connection is in a
-    /// transaction, K4 for want of memory.
+    /// transaction, K4 for want of memory. What was kept can be read again after a stop at any
+    /// moment.
     pub fn adopt(mut conn: Connection<S>) -> Result<Keeper<S>, (KeepFault, Connection<S>)>
         ensures clean { IfOk result (λ keeper. HasCleanDisk (state S.Store keeper)
             → HasCleanDisk (state S.Store conn)) }
@@ -146,6 +147,23 @@ impl<S: Alter + Drop> Keeper<S> {
             → (state S.Store conn).now.schema ≡ second_schema
             → kept_in (state S.Store keeper).now.trees
             ≡ second_kept (state S.Store conn).now.trees) }
+        ensures was_known { IfOk result (λ keeper. HasCleanDisk (state S.Store keeper)
+            → IsKnown (state S.Store conn).now) }
+        ensures known { (state S.Store conn).in_transaction ≡ false
+            → IsKnown (state S.Store conn).now
+            → IfErr result (λ refused. HasCleanDisk (state S.Store refused.1)
+            → refused.0 ≢ KeepFault.Damaged) }
+        ensures unknown { (HasKnownTables (state S.Store conn).now.schema → ⊥)
+            → IsErrAnd result (λ refused. (refused.0 ≡ KeepFault.Damaged)
+            × (refused.1 ≡ conn)) }
+        ensures inside { (state S.Store conn).in_transaction ≡ true
+            → IsErrAnd result (λ refused. (refused.0 ≡ KeepFault.Damaged)
+            × (refused.1 ≡ conn)) }
+        ensures stop { MatchResult result
+            (λ keeper. Survives (state S.Store conn) (state S.Store keeper)
+            (StillKeeps (state S.Store conn).now))
+            (λ refused. Survives (state S.Store conn) (state S.Store refused.1)
+            (StillKeeps (state S.Store conn).now)) }
         ensures unspent { IfErr result (λ refused. refused.0 ≢ KeepFault.RunsSpent) }
     {
         match prepare(&mut conn) {

@@ -1,6 +1,7 @@
 //! An agent's record and the number of the master's last run, kept in a SQLite store.
 #![tactic(auto)]
 
+mod adding;
 mod check;
 mod files;
 mod keeper;

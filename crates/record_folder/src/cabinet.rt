@@ -1,8 +1,13 @@
 //! The store of an agent's record.
 
-use crate::stores::{FilePlace, Given, Request, ask_at};
+ghost use Rattle.std.specs.Prelude.{◌≡◌, None, Some, IfOk, IsSomeAnd, OnOk, OnErr};
+ghost use Rattle.sqlite.specs.State.{HasCleanDisk};
+ghost use Rattle.sqlite.specs.Files.{file_state};
+ghost use Rattle.record_folder.specs.Given.{GivesRecord, GivesRun};
+
+use crate::stores::{FilePlace, Given, OpenStore, Request, ask_at};
 use agent_core::{Cabinet, Record};
-use keep_store::{KeepFault, Keeper};
+use keep_store::KeepFault;
 use names_core::AgentName;
 use quantity::Resources;
 use sqlite::{FileFrom, FileStore, Unknown};
@@ -57,38 +62,42 @@ impl<'a> RecordFile<'a> {
 /// The store of the master's runs of a folder, open: as long as it is, no other server can open the
 /// folder.
 pub struct FolderLock {
-    store: OpenFiles,
+    runs: OpenFiles,
 }
 
 // By hand: who drops one calls this, and the proof visits none of its store.
 impl Drop for FolderLock {
     fn drop(self) {
-        let FolderLock { store: _ } = self;
+        let FolderLock { runs: _ } = self;
     }
 }
 
 impl FolderLock {
-    pub(crate) fn new(store: OpenFiles) -> FolderLock {
-        FolderLock { store }
+    pub(crate) fn new(runs: OpenFiles) -> FolderLock
+        ensures { result.runs ≡ runs }
+    {
+        FolderLock { runs }
     }
 }
 
 /// A store over files, where it is open. All requests to one are in one function.
 pub(crate) struct OpenFiles {
-    keeper: Option<Keeper<FileStore<FileFrom<Unknown>>>>,
+    store: OpenStore<FileStore<FileFrom<Unknown>>>,
 }
 
 // By hand: who drops one calls this, and the proof visits none of its store.
 impl Drop for OpenFiles {
     fn drop(self) {
-        let OpenFiles { keeper: _ } = self;
+        let OpenFiles { store: _ } = self;
     }
 }
 
 impl OpenFiles {
     /// A store that isn't open yet.
     pub(crate) fn new() -> OpenFiles {
-        OpenFiles { keeper: None }
+        OpenFiles {
+            store: OpenStore::new(),
+        }
     }
 
     /// Has the store at a place answer a request. It stays open, and is closed after a fault.
@@ -97,8 +106,19 @@ impl OpenFiles {
         place: &FilePlace<'_>,
         alloc: Global,
         request: Request<'_>,
-    ) -> Result<Given, KeepFault> {
-        ask_at(place, &mut self.keeper, alloc, request)
+    ) -> Result<Given, KeepFault>
+        ensures run { request.entry ≡ Request.NextRun → IfOk result (λ given. IsSomeAnd
+            self.new.store (λ keeper. HasCleanDisk (file_state keeper)
+            → IsSomeAnd given.run (GivesRun (file_state keeper)))) }
+        ensures found { request.entry ≡ Request.Load → IfOk result (λ given. IsSomeAnd
+            self.new.store (λ keeper. HasCleanDisk (file_state keeper)
+            → GivesRecord (file_state keeper) given.record)) }
+        ensures kept { (durable : _) → request.entry ≡ Request.Save durable
+            → OnOk result (IsSomeAnd self.new.store (λ keeper. HasCleanDisk (file_state keeper)
+            → GivesRecord (file_state keeper) (Some durable.now))) }
+        ensures closed { OnErr result (self.new.store ≡ None) }
+    {
+        ask_at(place, &mut self.store, alloc, request)
     }
 }
 
@@ -130,13 +150,16 @@ impl<'a> FileCabinet<'a> {
 }
 
 impl<'a> Cabinet for FileCabinet<'a> {
-    ghost use Rattle.std.specs.Prelude.{true};
+    ghost use Rattle.std.specs.Prelude.{IsSomeAnd};
+    ghost use Rattle.sqlite.specs.State.{HasCleanDisk};
+    ghost use Rattle.sqlite.specs.Files.{file_state};
+    ghost use Rattle.record_folder.specs.Given.{GivesRecord};
 
     type Fault = KeepFault;
 
-    // Nothing is known of what a store over files has kept; what a save leaves in a store is
-    // in the clauses of `Keeper::save`.
-    ghost saved = { λ _ _. true };
+    // Its store is open, and keeps this, unless the disk returned what was never written.
+    ghost keeps = { λ cabinet kept. IsSomeAnd cabinet.store.store
+        (λ keeper. HasCleanDisk (file_state keeper) → GivesRecord (file_state keeper) kept) };
 
     fn save(&mut self, alloc: Global, durable: &Record) -> Result<(), KeepFault> {
         self.store.ask(&self.place, alloc, Request::Save(durable))?;

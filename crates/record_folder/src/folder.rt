@@ -1,10 +1,13 @@
 //! A folder of stores.
 
-ghost use Rattle.std.specs.Prelude.{◌≡◌, true, IfOk, IfErr, IfSome, IfNone, OnOk};
+ghost use Rattle.std.specs.Prelude.{◌≡◌, true, IfOk, IfErr, IfSome, IfNone, IsSomeAnd, OnOk};
+ghost use Rattle.sqlite.specs.State.{HasCleanDisk};
+ghost use Rattle.sqlite.specs.Files.{file_state};
 ghost use Rattle.quantity.specs.Rows.{covers};
 ghost use Rattle.cluster_openings.specs.Records.{AreRecordsOf};
 ghost use Rattle.cluster_model.specs.Agents as agents;
 ghost use Rattle.cluster_model.specs.Openings.{GoodOpening};
+ghost use Rattle.record_folder.specs.Given.{GivesRun};
 ghost use Rattle.record_folder.specs.Refusals.{IsFileRefusal, IsFolderRefusal, IsRecordRefusal, IsStoreRefusal};
 ghost use Rattle.record_folder.specs.declared.folder_fault.FolderFault.TheVariants.{NoCluster};
 
@@ -34,7 +37,10 @@ pub struct Folder<'a> {
 }
 
 /// The next run of the master, from the store of its runs, which stays open.
-fn take_run(alloc: Global, store: &mut OpenFiles, place: &FilePlace<'_>) -> Result<Run, KeepFault> {
+fn take_run(alloc: Global, store: &mut OpenFiles, place: &FilePlace<'_>) -> Result<Run, KeepFault>
+    ensures { IfOk result (λ run. IsSomeAnd store.new.store
+        (λ keeper. HasCleanDisk (file_state keeper) → GivesRun (file_state keeper) run)) }
+{
     let given = store.ask(place, alloc, Request::NextRun)?;
     given.run.ok_or(KeepFault::Damaged)
 }
@@ -55,7 +61,9 @@ fn hint_at(rt: &HostRuntime, folder: &str, fault: &KeepFault) -> StoreHint {
 
 /// The next run of the master, from the store of its runs in a folder, which stays open.
 fn next_run(rt: &HostRuntime, folder: &str, store: &mut OpenFiles) -> Result<Run, FolderFault>
-    ensures { IfErr result IsStoreRefusal }
+    ensures run { IfOk result (λ run. IsSomeAnd store.new.store
+        (λ keeper. HasCleanDisk (file_state keeper) → GivesRun (file_state keeper) run)) }
+    ensures refused { IfErr result IsStoreRefusal }
 {
     let path = format!(in rt.alloc(); "{folder}/master.db")?;
     let place = FilePlace::new(rt, path);
@@ -158,12 +166,19 @@ fn check_opening(config: &ConfiguredAgents, records: &[Record], run: Run) -> Res
     }
 }
 
-/// Adds the record of an agent and its file to those of a folder.
+/// The agents' records, and the files where they are kept.
+#[derive(Drop)]
+struct OpenAgents<'a> {
+    records: Vec<Record>,
+    files: Vec<RecordFile<'a>>,
+}
+
+/// Adds the record of an agent and its file to those of others.
 fn add_agent<'a>(
     rt: &'a HostRuntime,
     folder: &str,
     agent: &ConfiguredAgent,
-    opened: &mut Folder<'a>,
+    opened: &mut OpenAgents<'a>,
 ) -> Result<(), FolderFault>
     ensures { IfErr result (IsFileRefusal agent.now) }
 {
@@ -175,21 +190,41 @@ fn add_agent<'a>(
     Ok(())
 }
 
-/// Adds the records of all agents and their files to those of a folder, which has none yet.
+/// Adds the records of all agents and their files where there are none yet.
 fn add_agents<'a>(
     rt: &'a HostRuntime,
     folder: &str,
     config: &ConfiguredAgents,
-    opened: &mut Folder<'a>,
+    run: Run,
+    opened: &mut OpenAgents<'a>,
 ) -> Result<(), FolderFault>
-    ensures good { OnOk result (GoodOpening opened.new.run opened.new.records.items) }
+    ensures good { OnOk result (GoodOpening run opened.new.records.items) }
     ensures records { OnOk result (AreRecordsOf config.now opened.new.records.items) }
     ensures refused { IfErr result (IsFolderRefusal config.now) }
 {
     for agent in config.agents() {
         add_agent(rt, folder, agent, opened)?;
     }
-    check_opening(config, opened.records.as_slice(), opened.run)
+    check_opening(config, opened.records.as_slice(), run)
+}
+
+/// The records of all agents and their files.
+fn open_agents<'a>(
+    rt: &'a HostRuntime,
+    folder: &str,
+    config: &ConfiguredAgents,
+    run: Run,
+) -> Result<OpenAgents<'a>, FolderFault>
+    ensures good { IfOk result (λ opened. GoodOpening run opened.records.items) }
+    ensures records { IfOk result (λ opened. AreRecordsOf config.now opened.records.items) }
+    ensures refused { IfErr result (IsFolderRefusal config.now) }
+{
+    let mut opened = OpenAgents {
+        records: Vec::new(rt.alloc()),
+        files: Vec::new(rt.alloc()),
+    };
+    let added = add_agents(rt, folder, config, run, &mut opened);
+    added.and(Ok(opened))
 }
 
 /// Opens the stores of a folder, or makes those that lack: takes the master's next run, and reads
@@ -203,18 +238,22 @@ pub fn open_folder<'a>(
     folder: &str,
     config: &ConfiguredAgents,
 ) -> Result<Folder<'a>, FolderFault>
+    ensures run { IfOk result (λ opened. IsSomeAnd opened.lock.runs.store
+        (λ keeper. HasCleanDisk (file_state keeper) → GivesRun (file_state keeper) opened.run)) }
     ensures good { IfOk result (λ opened. GoodOpening opened.run opened.records.items) }
     ensures records { IfOk result (λ opened. AreRecordsOf config.now opened.records.items) }
     ensures refused { IfErr result (IsFolderRefusal config.now) }
 {
     let mut runs = OpenFiles::new();
     let run = next_run(rt, folder, &mut runs)?;
-    let mut opened = Folder {
-        run,
-        records: Vec::new(rt.alloc()),
-        files: Vec::new(rt.alloc()),
-        lock: FolderLock::new(runs),
-    };
-    let added = add_agents(rt, folder, config, &mut opened);
-    added.and(Ok(opened))
+    let lock = FolderLock::new(runs);
+    match open_agents(rt, folder, config, run) {
+        Ok(OpenAgents { records, files }) => Ok(Folder {
+            run,
+            records,
+            files,
+            lock,
+        }),
+        Err(fault) => Err(fault),
+    }
 }

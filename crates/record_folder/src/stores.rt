@@ -1,17 +1,26 @@
 //! The stores at places, and the requests to them.
 
+ghost use Rattle.std.specs.Prelude.{◌≡◌, ◌≢◌, ◌+◌, ◌<◌, ◌^◌, Some, None, IfOk, IfErr, IfSome, IsSomeAnd, OnOk, OnErr};
+ghost use Rattle.sqlite.specs.State.{HasCleanDisk};
+ghost use Rattle.sqlite.specs.Held.{state};
+ghost use Rattle.record_saves.specs.Kept.{kept_in, with_record};
+ghost use Rattle.record_folder.specs.Given.{GivesRecord, GivesRun, IsUsable};
+
 use agent_core::Record;
 use keep_store::{KeepFault, Keeper};
 use names_core::Run;
 use sqlite::{Alter, FileFrom, FileStore, Unknown};
 use std::alloc::Global;
+use std::marker::Model;
 
 /// Where a store is. What is done with the store of a place is written once, for every place.
 pub trait Place: Drop {
     type Store: Alter + Drop;
 
     /// Opens the store. It is made where there is none.
-    fn open(&self) -> Result<Keeper<Self::Store>, KeepFault>;
+    fn open(&self) -> Result<Keeper<Self::Store>, KeepFault>
+        ensures ready { IfOk result (λ keeper. IsUsable (state Self.Store.Store keeper)) }
+        ensures unspent { IfErr result (λ e. e ≢ KeepFault.RunsSpent) };
 }
 
 /// The files at a path, whatever they hold.
@@ -59,37 +68,140 @@ pub(crate) struct Given {
     pub record: Option<Record>,
 }
 
-fn run_of(number: u32) -> Option<Run> {
+/// A store, where it is open.
+pub(crate) struct OpenStore<S: Alter> {
+    keeper: Option<Keeper<S>>,
+}
+
+impl<S: Alter> Model for OpenStore<S> {
+    ghost use Rattle.std.specs.Prelude.{Option, IfSome};
+    ghost use Rattle.std.specs.Coded.{coded_option};
+    ghost use Rattle.sqlite.specs.Held.{Held, held_code, state};
+    ghost use Rattle.record_folder.specs.Given.{IsUsable};
+
+    ghost Value = { Option (Held S) };
+
+    ghost coded = { coded_option (held_code S.code) };
+
+    ghost view = { λ it. it.keeper };
+
+    ghost invariant = { λ it. IfSome it.keeper (λ keeper. IsUsable (state S.Store keeper)) };
+}
+
+impl<S: Alter + Drop> Drop for OpenStore<S> {
+    fn drop(self) {
+        let OpenStore { keeper: _ } = self;
+    }
+}
+
+impl<S: Alter> OpenStore<S> {
+    /// A store that isn't open yet.
+    pub(crate) fn new() -> OpenStore<S>
+        ensures { result ≡ None }
+    {
+        OpenStore { keeper: None }
+    }
+}
+
+fn run_of(number: u32) -> Option<Run>
+    ensures { 0 < number → number < 2 ^ 16 → result ≡ Some number }
+{
     match u16::try_from(number) {
         Ok(number) if number > 0 => Some(Run::new(number)),
         _ => None,
     }
 }
 
-/// A store, with its answer to a request.
-fn answered<S: Alter + Drop>(
-    mut keeper: Keeper<S>,
-    alloc: Global,
-    request: Request<'_>,
-) -> Result<(Keeper<S>, Given), KeepFault> {
-    let (run, record) = match request {
-        Request::NextRun => (run_of(keeper.next_run()?), None),
-        Request::Load => (None, keeper.load(alloc)?),
-        Request::Save(record) => {
-            keeper.save(alloc, record)?;
-            (None, None)
-        }
-    };
+/// A store, with the run that it takes, the one after its last.
+fn run_given<S: Alter + Drop>(mut keeper: Keeper<S>) -> Result<(Keeper<S>, Given), KeepFault>
+    requires { IsUsable (state S.Store keeper) }
+    ensures usable { IfOk result (λ it. IsUsable (state S.Store it.0)) }
+    ensures run { IfOk result (λ it. HasCleanDisk (state S.Store it.0)
+        → IsSomeAnd it.1.run (GivesRun (state S.Store it.0))) }
+    ensures next { IfOk result (λ it. HasCleanDisk (state S.Store it.0)
+        → it.1.run ≡ Some ((kept_in (state S.Store keeper).now.trees).last + 1)) }
+{
+    let number = keeper.next_run()?;
+    let run = run_of(number);
+    let record = None;
     Ok((keeper, Given { run, record }))
 }
 
-/// The store at a place as a request needs it: the one that is open, or one that is opened.
-fn take<P: Place>(
-    place: &P,
-    open: &mut Option<Keeper<P::Store>>,
+/// A store, with the record that it keeps.
+fn record_given<S: Alter + Drop>(
+    mut keeper: Keeper<S>,
+    alloc: Global,
+) -> Result<(Keeper<S>, Given), KeepFault>
+    requires { IsUsable (state S.Store keeper) }
+    ensures usable { IfOk result (λ it. IsUsable (state S.Store it.0)) }
+    ensures found { IfOk result (λ it. HasCleanDisk (state S.Store it.0)
+        → GivesRecord (state S.Store it.0) it.1.record) }
+{
+    let record = keeper.load(alloc)?;
+    let run = None;
+    Ok((keeper, Given { run, record }))
+}
+
+/// A store, once it keeps a record in place of the one before.
+fn record_kept<S: Alter + Drop>(
+    mut keeper: Keeper<S>,
+    alloc: Global,
+    durable: &Record,
+) -> Result<(Keeper<S>, Given), KeepFault>
+    requires { IsUsable (state S.Store keeper) }
+    ensures usable { IfOk result (λ it. IsUsable (state S.Store it.0)) }
+    ensures kept { IfOk result (λ it. HasCleanDisk (state S.Store it.0)
+        → GivesRecord (state S.Store it.0) (Some durable.now)) }
+    ensures replaced { IfOk result (λ it. HasCleanDisk (state S.Store it.0)
+        → kept_in (state S.Store it.0).now.trees
+        ≡ with_record durable.now (kept_in (state S.Store keeper).now.trees)) }
+{
+    keeper.save(alloc, durable)?;
+    let (run, record) = (None, None);
+    Ok((keeper, Given { run, record }))
+}
+
+/// A store, with its answer to a request.
+fn answered<S: Alter + Drop>(
+    keeper: Keeper<S>,
+    alloc: Global,
     request: Request<'_>,
-) -> Result<Keeper<P::Store>, KeepFault> {
-    let kept = open.take();
+) -> Result<(Keeper<S>, Given), KeepFault>
+    requires { IsUsable (state S.Store keeper) }
+    ensures usable { IfOk result (λ it. IsUsable (state S.Store it.0)) }
+    ensures run { request.entry ≡ Request.NextRun
+        → IfOk result (λ it. HasCleanDisk (state S.Store it.0)
+        → IsSomeAnd it.1.run (GivesRun (state S.Store it.0))) }
+    ensures next { request.entry ≡ Request.NextRun
+        → IfOk result (λ it. HasCleanDisk (state S.Store it.0)
+        → it.1.run ≡ Some ((kept_in (state S.Store keeper).now.trees).last + 1)) }
+    ensures found { request.entry ≡ Request.Load
+        → IfOk result (λ it. HasCleanDisk (state S.Store it.0)
+        → GivesRecord (state S.Store it.0) it.1.record) }
+    ensures kept { (durable : _) → request.entry ≡ Request.Save durable
+        → IfOk result (λ it. HasCleanDisk (state S.Store it.0)
+        → GivesRecord (state S.Store it.0) (Some durable.now)) }
+    ensures replaced { (durable : _) → request.entry ≡ Request.Save durable
+        → IfOk result (λ it. HasCleanDisk (state S.Store it.0)
+        → kept_in (state S.Store it.0).now.trees
+        ≡ with_record durable.now (kept_in (state S.Store keeper).now.trees)) }
+{
+    match request {
+        Request::NextRun => run_given(keeper),
+        Request::Load => record_given(keeper, alloc),
+        Request::Save(durable) => record_kept(keeper, alloc, durable),
+    }
+}
+
+/// The store at a place as a request needs it: the one that is open, or one that is opened.
+fn needed<P: Place>(
+    place: &P,
+    kept: Option<Keeper<P::Store>>,
+    request: Request<'_>,
+) -> Result<Keeper<P::Store>, KeepFault>
+    requires { IfSome kept (λ keeper. IsUsable (state P.Store.Store keeper)) }
+    ensures { IfOk result (λ keeper. IsUsable (state P.Store.Store keeper)) }
+{
     match request {
         Request::Save(_) => match kept {
             Some(keeper) => Ok(keeper),
@@ -105,11 +217,24 @@ fn take<P: Place>(
 /// Has the store at a place answer a request. It stays open, and is closed after a fault.
 pub(crate) fn ask_at<P: Place>(
     place: &P,
-    open: &mut Option<Keeper<P::Store>>,
+    store: &mut OpenStore<P::Store>,
     alloc: Global,
     request: Request<'_>,
-) -> Result<Given, KeepFault> {
-    let (keeper, given) = answered(take(place, open, request)?, alloc, request)?;
-    *open = Some(keeper);
+) -> Result<Given, KeepFault>
+    ensures run { request.entry ≡ Request.NextRun → IfOk result (λ given. IsSomeAnd store.new
+        (λ keeper. HasCleanDisk (state P.Store.Store keeper)
+        → IsSomeAnd given.run (GivesRun (state P.Store.Store keeper)))) }
+    ensures found { request.entry ≡ Request.Load → IfOk result (λ given. IsSomeAnd store.new
+        (λ keeper. HasCleanDisk (state P.Store.Store keeper)
+        → GivesRecord (state P.Store.Store keeper) given.record)) }
+    ensures kept { (durable : _) → request.entry ≡ Request.Save durable
+        → OnOk result (IsSomeAnd store.new
+        (λ keeper. HasCleanDisk (state P.Store.Store keeper)
+        → GivesRecord (state P.Store.Store keeper) (Some durable.now))) }
+    ensures closed { OnErr result (store.new ≡ None) }
+{
+    let kept = store.keeper.take();
+    let (keeper, given) = answered(needed(place, kept, request)?, alloc, request)?;
+    store.keeper = Some(keeper);
     Ok(given)
 }

@@ -148,6 +148,27 @@ then_tasks seen ts us x y z p q = record {
   others = λ t other free. q.others t other free ∙ p.others t other free;
 }
 
+has_front : {X : Type 0} (n : ℕ) (ts : List X) (t : X) → Has (take n ts) t → Has ts t
+has_front zero ts t at = absurd at
+has_front (suc n) [] t at = absurd at
+has_front (suc n) (x ∷ ts) t (inl is) = inl is
+has_front (suc n) (x ∷ ts) t (inr at) = inr (has_front n ts t at)
+
+pub all_front : {X : Type 0} (P : X → Type 0) (n : ℕ) (ts : List X) → AllByRecursion P ts → AllByRecursion P (take n ts)
+all_front P n ts all = all_from P (take n ts) (λ t at. all_has P ts t all (has_front n ts t at))
+
+-- the tasks begin with the wanted ones, and each is one of these
+pub wanted_tasks : (seen : Option (List RecordedTask)) (ts wanted : List RecordedTask) (x y : Trees) → take (length wanted) ts ≡ wanted → AllByRecursion (Has wanted) ts → HasTasks seen ts x y → HasTasks seen wanted x y
+wanted_tasks seen ts wanted x y front among h = record {
+  are_rows = λ knows.
+      let rows = h.are_rows knows in
+      record {
+        each = λ row at. let it = rows.each row at in (it.0, all_has (Has wanted) ts it.0 among it.1, it.2);
+        all = λ task at. rows.all task (has_front (length wanted) ts task (subst (λ (all : List RecordedTask). Has all task) (sym front) at));
+      };
+  others = h.others;
+}
+
 pub same_tasks : (ts : List RecordedTask) (x : Trees) → HasTasks (Some ts) ts x x
 same_tasks ts x = record { are_rows = λ knows. knows; others = λ t other free. refl }
 

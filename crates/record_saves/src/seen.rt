@@ -268,6 +268,7 @@ fn add_others<S: Alter>(
         (state S.Store tx.old.conn.now) (state S.Store tx.new.conn.now) }
     ensures still_put { OnOk result (AllByRecursion IsPut tasks.new.items) }
     ensures front { OnOk result (take (length wanted.now) tasks.new.items ≡ wanted.now) }
+    ensures still_among { OnOk result (AllByRecursion (Has wanted.now) tasks.new.items) }
     ensures undamaged { IfErr result (λ e. e ≢ KeepFault.Damaged) }
     ensures unspent { IfErr result (λ e. e ≢ KeepFault.RunsSpent) }
 {
@@ -298,9 +299,8 @@ fn fit_tasks<S: Alter>(
 {
     cut_others(tx, tasks, wanted)?;
     add_others(tx, alloc, tasks, wanted)?;
-    if tasks.len() != wanted.len() {
-        return Err(corrupt());
-    }
+    // (all are wanted and their keys rise, so behind the wanted ones there is none)
+    tasks.truncate(wanted.len());
     Ok(())
 }
 

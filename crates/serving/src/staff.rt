@@ -4,7 +4,7 @@ ghost use Rattle.std.specs.Prelude.{◌≡◌, [], IfOk};
 
 use crate::fault::ServingFault;
 use crate::memory::{MemoryLimit, keep_within};
-use activities::{activity, ticker};
+use activities::{Stopwatch, activity, ticker};
 use desk_lock::{Office, Pass};
 use http_workers::HttpFault;
 use office_bench::Ending;
@@ -113,8 +113,9 @@ fn keep_time<D: Running, L: ledger::Ledger, R: Wait + Clock>(
     pass: Pass<KeptEntry, L>,
     interval: u64,
 ) -> Leaver<L> {
+    let mut seconds = Stopwatch::new(rt);
     Leaver {
-        pass: ticker(rt, alloc, office, pass, interval),
+        pass: ticker(rt, alloc, office, pass, &mut seconds, interval),
         fault: None,
     }
 }

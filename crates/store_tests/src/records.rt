@@ -14,13 +14,14 @@ pub const SESSION_1: &str =
 pub const SESSION_2: &str =
     r#"{"name":"a1","run":1,"session":2,"tasks":[],"total":{},"version":2}"#;
 
-/// It with three tasks.
+/// It with three tasks, in session 101.
 pub const TASKS: &str =
-    r#"{"name":"a1","run":1,"session":2,"tasks":[{"acked":1,"framework":"F1-1","key":"L1-1","name":"t1","offers":["O1-1"],"resources":{"cpus":1},"updates":["TASK_RUNNING"]},{"acked":0,"framework":"F1-1","key":"L1-2","name":"t2","offers":["O1-1"],"resources":{"cpus":1},"updates":["TASK_RUNNING"]},{"acked":0,"framework":"F1-2","key":"L1-3","name":"t3","offers":["O1-2","O1-3"],"resources":{"cpus":1,"mem":64},"updates":[]}],"total":{"cpus":4,"mem":64},"version":2}"#;
+    r#"{"name":"a1","run":1,"session":101,"tasks":[{"acked":1,"framework":"F1-1","key":"L1-1","name":"t1","offers":["O1-1"],"resources":{"cpus":1},"updates":["TASK_RUNNING"]},{"acked":0,"framework":"F1-1","key":"L1-2","name":"t2","offers":["O1-1"],"resources":{"cpus":1},"updates":["TASK_RUNNING"]},{"acked":0,"framework":"F1-2","key":"L1-3","name":"t3","offers":["O1-2","O1-3"],"resources":{"cpus":1,"mem":64},"updates":[]}],"total":{"cpus":4,"mem":64},"version":2}"#;
 
-/// The same first task, the second with an update more, no third, and a new one of the next run.
+/// The same first task, the second with an update more, no third, and a new one of the next run,
+/// in the last session that there is.
 pub const OTHER_TASKS: &str =
-    r#"{"name":"a1","run":2,"session":3,"tasks":[{"acked":1,"framework":"F1-1","key":"L1-1","name":"t1","offers":["O1-1"],"resources":{"cpus":1},"updates":["TASK_RUNNING"]},{"acked":0,"framework":"F1-1","key":"L1-2","name":"t2","offers":["O1-1"],"resources":{"cpus":1},"updates":["TASK_RUNNING","TASK_FINISHED"]},{"acked":0,"framework":"F1-1","key":"L2-1","name":"t4","offers":["O2-1"],"resources":{"cpus":2},"updates":[]}],"total":{"cpus":8},"version":2}"#;
+    r#"{"name":"a1","run":2,"session":4294967295,"tasks":[{"acked":1,"framework":"F1-1","key":"L1-1","name":"t1","offers":["O1-1"],"resources":{"cpus":1},"updates":["TASK_RUNNING"]},{"acked":0,"framework":"F1-1","key":"L1-2","name":"t2","offers":["O1-1"],"resources":{"cpus":1},"updates":["TASK_RUNNING","TASK_FINISHED"]},{"acked":0,"framework":"F1-1","key":"L2-1","name":"t4","offers":["O2-1"],"resources":{"cpus":2},"updates":[]}],"total":{"cpus":8},"version":2}"#;
 
 /// It in session 1 with a task of which nothing was reported yet, on cpus 4 and mem 4096.
 pub const OWNS_4: &str =

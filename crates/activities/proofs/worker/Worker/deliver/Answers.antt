@@ -1,8 +1,8 @@
-use Rattle.activities.proofs.Saves.{keeps_then, none_is_not_some}
+use Rattle.activities.proofs.Saves.{delivered_more, delivered_none}
 use Rattle.activities.proofs.worker.Worker.deliver.Goals as goal
 
-pub loop-preserved : goal.loop-preserved
-loop-preserved g c = λ saved. keeps_then _ saved saved saved _ _ _ (c.loop.invariant saved) (c.call.ensures.keeps saved (λ agent e. absurd (none_is_not_some agent e)))
+pub loop-init : goal.loop-init
+loop-init g c = delivered_none c.args.pass.now
 
-pub returns-in-Err : goal.returns-in-Err
-returns-in-Err g c = λ saved. keeps_then _ saved saved saved _ _ _ (c.loop.invariant saved) (c.call.ensures.keeps saved (λ agent e. absurd (none_is_not_some agent e)))
+pub loop-preserved : goal.loop-preserved
+loop-preserved g c = delivered_more g.D.Running.is_taken c.args.pass.now c.loop.pass c.call.new.pass c.in-Some-2.number c.in-Ok.answered c.loop.invariant c.in-Ok.ensures.answered

@@ -1,8 +1,10 @@
-use Rattle.activities.proofs.Looks.{mail_seen, turn_seen}
+use Rattle.activities.proofs.Ends.{mail_over}
+use Rattle.activities.proofs.Looks.{mail_seen}
 use Rattle.activities.proofs.worker.Worker.first_mail.Goals as goal
 
-pub returns-in-Ok-Mail : goal.returns-in-Ok-Mail
-returns-in-Ok-Mail g c = mail_seen _ _ _ _ _ _ c.in-Ok-Mail.field-0-is c.in-Ok-Mail.ensures.woken
+pub returns-clause-seen : goal.returns-clause-seen
+returns-clause-seen g c = mail_seen _ _ g.D.Running.is_first_to c.args.self.now.agent.now c.wait_mail.result c.mail_found.result c.mail_found.ensures c.wait_mail.ensures.woken
 
-pub returns-in-Ok-Turn : goal.returns-in-Ok-Turn
-returns-in-Ok-Turn g c = turn_seen _ _ _ _ _ c.in-Ok-Turn.field-0-is c.in-Ok-Turn.ensures.woken
+pub returns-clause-over : goal.returns-clause-over
+returns-clause-over g c =
+    mail_over _ _ g.D.Running.record_of g.D.Running.is_refused c.args.self.now.agent.now g.D.Recorded.kind_of g.D.Running.is_first_to c.args.pass.now c.wait_mail.result c.mail_found.result c.mail_found.ensures c.wait_mail.ensures.woken c.wait_mail.ensures.refused

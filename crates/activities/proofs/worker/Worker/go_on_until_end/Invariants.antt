@@ -1,5 +1,5 @@
-use Rattle.activities.specs.Saved.{IsOpen, Keeps}
+use Rattle.activities.specs.Saved.{IsOpen, Keeps, WasKept}
 use Rattle.activities.proofs.worker.Worker.go_on_until_end.Given as goal
 
 abbrev pub invariant-loop : goal.invariant-loop
-invariant-loop g l = Keeps g.D.Running.is_taken (g.C.Cabinet.saved l.fn.cabinet) (g.C.Cabinet.saved l.cabinet) l.fn.pass l.pass × IsOpen g.D.Running.is_taken l.fn.self.agent.now l.opened l.pass
+invariant-loop g l = Keeps g.D.Running.is_taken (WasKept g.C.Cabinet.keeps) l.fn.pass l.pass × IsOpen g.D.Running.is_taken l.fn.self.agent.now l.opened l.pass

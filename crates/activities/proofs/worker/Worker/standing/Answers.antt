@@ -1,8 +1,5 @@
-use Rattle.activities.proofs.Saves.{keeps_more}
+use Rattle.activities.proofs.Saves.{found_saved}
 use Rattle.activities.proofs.worker.Worker.standing.Goals as goal
 
-pub returns-in-Ok-clause-keeps : goal.returns-in-Ok-clause-keeps
-returns-in-Ok-clause-keeps g c = keeps_more _ _ _ c.args.pass.now c.in-Ok.ensures.before
-
-pub returns-in-Err-clause-keeps : goal.returns-in-Err-clause-keeps
-returns-in-Err-clause-keeps g c = keeps_more _ _ _ c.args.pass.now c.in-Err.ensures.before
+pub returns-in-Ok-clause-after : goal.returns-in-Ok-clause-after
+returns-in-Ok-clause-after g c = found_saved _ g.C.Cabinet.keeps c.reopen.new.self c.args.self.now.agent.now c.in-Ok.kept c.args.opened.now c.args.pass.now c.standing_of.result c.in-Ok.ensures c.requires c.standing_of.ensures.after
