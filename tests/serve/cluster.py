@@ -77,8 +77,11 @@ class Server:
     def __init__(self, folder, *options, port=None, env=None):
         self.port = port or free_port()
         words = [PROGRAM, "serve", "--port", str(self.port), "--agents", folder.agents, "--state", folder.state, *options]
-        # It ignores SIGXFSZ, as Python does: a write past the limit of a file's size fails, and doesn't end it.
-        self.process = subprocess.Popen(words, stdout=subprocess.PIPE, stderr=subprocess.PIPE, stdin=subprocess.DEVNULL, restore_signals=False, env=env)
+        # It ignores SIGXFSZ, as Python does: a write past the limit of a file's size fails, and doesn't end it. Its pipes have no buffer here, since `communicate` passes over what
+        # a read of a line has left in one.
+        self.process = subprocess.Popen(
+            words, bufsize=0, stdout=subprocess.PIPE, stderr=subprocess.PIPE, stdin=subprocess.DEVNULL, restore_signals=False, env=env
+        )
         self.noted, self.said = [], ""
         while "serves at" not in self.said:
             self.noted += [self.said] if self.said else []
