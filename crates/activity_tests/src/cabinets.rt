@@ -94,13 +94,20 @@ impl Flags {
     }
 }
 
-/// Waits for a flag, for some seconds of turns at most.
+/// Some 100 microseconds.
+fn turn() {
+    for _ in 0..4_000u32 {
+        spin_loop();
+    }
+}
+
+/// Waits for a flag, for at most 1,000,000 turns of some 100 microseconds.
 fn wait_for(flag: &AtomicBool) -> bool {
-    for _ in 0..u32::MAX {
+    for _ in 0..1_000_000u32 {
         if flag.load(Ordering::SeqCst) {
             return true;
         }
-        spin_loop();
+        turn();
     }
     false
 }
