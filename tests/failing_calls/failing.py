@@ -161,12 +161,12 @@ class Served:
     """A cluster that is served under fail.c for so many connections (0: any number), with no round of offers but that at its start. Streams and frameworks are counted,
     so that each id is known, and entries of the history that the connections make."""
 
-    def __init__(self, folder, control, connections=0):
-        self.folder, self.control, self.connections, self.server = folder, control, connections, None
+    def __init__(self, folder, control, connections=0, options=()):
+        self.folder, self.control, self.connections, self.options, self.server = folder, control, connections, options, None
         self.start()
 
     def start(self):
-        options = ("--interval", "3600", "--conns", str(self.connections))
+        options = ("--interval", "3600", "--conns", str(self.connections), *self.options)
         self.server = Server(self.folder, *options, env=self.control.environment)
         self.port = self.server.port
         self.run = int(re.match(r"run (\d+) serves at ", self.server.said)[1])

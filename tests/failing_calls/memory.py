@@ -5,7 +5,7 @@ What comes is a beginning of the answer that is due, or of a 503 that tells of m
 wasn't taken, its framework is unknown, and the next one gets the number that it would have had; where it was taken and the connection broke off, its stream is hung
 up. Behind each refusal an honest framework subscribes and is torn down, byte by byte. There are two exceptions. Where the master's memory was refused (M5) it is
 down: calls are answered 503 C2, other requests as before, and a server that is started again on the folder serves. Where the refusal met the thread that takes
-connections, the server ends by itself once they have ended, with status 3 and H8 or H9. A C compiler is asked for. It prints what it checked, and ends within a
+connections, the server ends by itself once they have ended, with status 3 and H8 or H9; with --keep-serving it goes on. A C compiler is asked for. It prints what it checked, and ends within a
 minute.
 """
 import collections
@@ -106,11 +106,11 @@ def go_on(served, kind):
     return kind
 
 
-def take_first(folder, control):
+def take_first(folder, control, *options):
     """What comes of the first connection of a server whose first thread, which takes it, is refused memory: one allocation after another, each with a server of its own."""
     tally = collections.Counter()
     for number in range(1, 1_000):
-        with Served(folder, control) as served:
+        with Served(folder, control, options=options) as served:
             control.arm(Control.MEMORY, number, scope=Control.FIRST)
             got = answer_to(served.port, NO_SUCH_PATH)
             time.sleep(TAKEN)
@@ -149,6 +149,9 @@ def main():
         control = Control(work)
         print(f"a SUBSCRIBE over HTTP, with each of its allocations refused: {told(sweep(folder, control))}")
         print(f"the first connection of a server, with each allocation of the thread that takes it refused: {told(take_first(folder, control))}")
+        kept = take_first(folder, control, "--keep-serving")
+        check(list(kept) == ["the server goes on"], f"with --keep-serving {told(kept)}")
+        print(f"the same with --keep-serving: {told(kept)}")
 
 
 if __name__ == "__main__":

@@ -95,7 +95,9 @@ def try_task(work, number, rest):
     outcome = run(work, f"control-{number}-{rest}", Control.FILES, number, rest)
     if outcome.said:
         status, out, err = outcome.said
-        check(rest and (status, out) == (3, "") and err.startswith(FAULT) and err.endswith(": the record of a1\n"), f"a server ends: {outcome.said}")
+        *told, last = err.splitlines(keepends=True) or [""]
+        check(all(line.startswith("agent a1 can't be saved, ") or line == "agent a1 is saved again\n" for line in told), f"a server told before it ended: {outcome.said}")
+        check(rest and (status, out) == (3, "") and last.startswith(FAULT) and last.endswith(": the record of a1\n"), f"a server ends: {outcome.said}")
     check(outcome.stands or outcome.said, "the master is up where a store fails")
     if not outcome.failed:
         return "not reached"

@@ -13,7 +13,7 @@ ghost use Rattle.offer_rows.specs.Names.{is_among};
 ghost use Rattle.offer_tables.specs.Found.{place};
 ghost use Rattle.offer_tables.specs.Held.{AreKeyed, is_framework_of, placed_of};
 ghost use Rattle.agent_sides.specs.Looks.{all_placed, at_name};
-ghost use Rattle.agent_sides.specs.Own.{good_offers, named_rows, sides_with_tasks};
+ghost use Rattle.agent_sides.specs.Own.{named_rows, sides_with_tasks, sum_on};
 
 use crate::agent::AgentSide;
 use crate::placed;
@@ -169,10 +169,46 @@ fn push_if_has_tasks(
     Ok(())
 }
 
+impl GoodOffers {
+    /// The sum of a framework's offers of these ids on an agent, with its name.
+    fn on(
+        alloc: Global,
+        side: &AgentSide<'_>,
+        framework: FrameworkId,
+        ids: &[OfferId],
+    ) -> Result<GoodOffers, AllocError>
+        ensures good { IfOk result (λ good. good ≡ sum_on framework ids.now side.now) }
+        ensures rows { IfOk result (λ good. AreRows good.sum) }
+    {
+        let agent = side.name().copy()?;
+        let sum = named_sum(alloc, side, framework, ids)?;
+        let _rows = sum.rows();
+        Ok(GoodOffers { agent, sum })
+    }
+
+    /// The agent on which the offers of these ids are good, and their sum, where there is one.
+    pub fn of(
+        alloc: Global,
+        side: &Option<AgentSide<'_>>,
+        framework: FrameworkId,
+        ids: &[OfferId],
+    ) -> Result<Option<GoodOffers>, AllocError>
+        ensures good { IfOk result (λ good. good
+            ≡ option_map (sum_on framework ids.now) side.now) }
+        ensures rows { IfOk result (λ good. IfSome good (λ offers. AreRows offers.sum)) }
+    {
+        match side {
+            None => Ok(None),
+            Some(side) => Ok(Some(GoodOffers::on(alloc, side, framework, ids)?)),
+        }
+    }
+}
+
 impl Sides {
-    /// The agent on which a framework may use the offers of these ids together. Only the agent of
-    /// the first id is looked at.
-    fn good_side(&self, framework: FrameworkId, ids: &[OfferId]) -> Option<AgentSide<'_>>
+    /// The agent on which a framework may use the offers of these ids together: it has an open
+    /// session, there are some ids, none is listed twice, and each is that of a current offer there
+    /// to the framework. Only the agent of the first id is looked at. It takes no memory.
+    pub fn good_side(&self, framework: FrameworkId, ids: &[OfferId]) -> Option<AgentSide<'_>>
         ensures { result ≡ find (λ s. is_good s framework ids.now) self.now }
     {
         let Some(id) = ids.first() else {
@@ -189,27 +225,6 @@ impl Sides {
         } else {
             None
         }
-    }
-
-    /// The agent on which a framework may use the offers of these ids together, and their sum: it
-    /// has an open session, there are some ids, none is listed twice, and each is that of a current
-    /// offer there to the framework.
-    pub fn good_offers(
-        &self,
-        alloc: Global,
-        framework: FrameworkId,
-        ids: &[OfferId],
-    ) -> Result<Option<GoodOffers>, AllocError>
-        ensures good { IfOk result (λ good. good ≡ good_offers framework ids.now self.now) }
-        ensures rows { IfOk result (λ good. IfSome good (λ offers. AreRows offers.sum)) }
-    {
-        let Some(side) = self.good_side(framework, ids) else {
-            return Ok(None);
-        };
-        let agent = side.name().copy()?;
-        let sum = named_sum(alloc, &side, framework, ids)?;
-        let _rows = sum.rows();
-        Ok(Some(GoodOffers { agent, sum }))
     }
 
     /// Whether the session of an agent with booked tasks of a framework has no command number left.

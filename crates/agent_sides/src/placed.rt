@@ -19,7 +19,7 @@ pub(crate) fn empty_at(entries: &[RosterEntry], book: &mut OfferBook, alloc: Glo
 {
     if place < entries.len() {
         let nothing = Resources::new(alloc);
-        let _emptied = book.empty_agent(alloc, entries[place].name(), nothing);
+        let _emptied = book.empty_agent(entries[place].name(), nothing);
     }
 }
 

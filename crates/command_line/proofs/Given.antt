@@ -1,8 +1,8 @@
 -- What the rows of options hold once words are taken without a fault.
-use Rattle.std.proofs.Common.{◌≡◌, ◌∙◌, ◌<◌, ◌≤◌, ◌^◌, ◌||◌, ◌⊎◌, ℕ, Bool, ap, ap₂, arith, cond, inl, inr, true, false, refl, subst, sym, List, [], ◌∷◌, ◌++◌, length, Some, true≢false}
+use Rattle.std.proofs.Common.{◌≡◌, ◌∙◌, ◌<◌, ◌≤◌, ◌^◌, ◌||◌, ◌⊎◌, ℕ, Bool, ap, ap₂, arith, codes, cond, inl, inr, true, false, refl, subst, sym, List, [], ◌∷◌, ◌++◌, length, Some, true≢false}
 use Rattle.std.specs.Prelude.{IfSome, find, fold, option_and_then, option_map, slice_get}
 use Rattle.std.specs.Str.Parse.{digits_value, without_leading_plus}
-use Rattle.clap.specs.Values.{read_as, refused_kind}
+use Rattle.clap.specs.Values.{bool_text, read_as, refused_kind}
 use Rattle.clap.specs.ValueTests.{accepts}
 use Rattle.clap.proofs.ValueTestLemmas.{accepts-Accepts}
 use Rattle.std.specs.Option.{option_map_or}
@@ -13,12 +13,13 @@ use Rattle.clap.specs.Walk.{Row, Rule, Text, action_of, arg_by_id, at_row, defau
 use Rattle.clap.specs.Takes.{is_given}
 use Rattle.clap.specs.Kinds.{range_kinds, request_kinds, value_kinds, values_kinds}
 use Rattle.clap.specs.Faults.{action_fault, default_fault, defaults_fault, given_default_fault, repeat_fault, use_fault, values_fault}
-use Rattle.clap.specs.declared.builder.action.ArgAction.TheVariants.{Help, Set}
+use Rattle.clap.specs.declared.builder.action.ArgAction.TheVariants.{Help, Set, SetTrue}
 use Rattle.clap.specs.declared.builder.value_parser.Reading.{Reading}
 use Rattle.clap.specs.declared.builder.value_parser.Reading.TheVariants.{AsWritten}
 use Rattle.clap.specs.declared.builder.value_parser.ValueParser.{ValueParser}
 use Rattle.clap.specs.declared.builder.value_parser.ValueParser.TheVariants.{Unsigned}
-use Rattle.command_line.specs.Options.{HasNumber}
+use Rattle.clap.specs.declared.builder.value_parser.ValueParser.TheVariants as parser
+use Rattle.command_line.specs.Options.{HasFlag, HasNumber}
 use Rattle.clap.specs.declared.parser.matches.ValueSource.{ValueSource}
 use Rattle.clap.specs.declared.parser.matches.ValueSource.TheVariants.{CommandLine, DefaultValue}
 use Rattle.std.proofs.lemmas.Bool.{ne_eqb}
@@ -34,9 +35,13 @@ Filled how values a = (how ≡ reading_by a) × (values_fault a values ≡ []) �
 abbrev pub Fits : List Rule → Row → Type 0
 Fits c r = IfSome (arg_by_id c r.id) (Filled r.reading r.values)
 
--- the first rule of its name, and an option of one value or a call for help
+-- an option of one value, a flag, or a call for help
+abbrev pub Kind : Rule → Type 0
+Kind a = (action_of a ≡ Help) ⊎ (((action_of a ≡ Set) × ((unwrap_or_range a.range).start_inclusive ≡ 1)) ⊎ ((action_of a ≡ SetTrue) × (0 < length a.missing)))
+
+-- the first rule of its name, and of such a kind
 abbrev pub Reads : List Rule → Rule → Type 0
-Reads c a = (arg_by_id c a.id ≡ Some a) × ((action_of a ≡ Help) ⊎ ((action_of a ≡ Set) × ((unwrap_or_range a.range).start_inclusive ≡ 1)))
+Reads c a = (arg_by_id c a.id ≡ Some a) × Kind a
 
 -- values before and behind, each without a fault
 both_values : (ignore_case : Bool) (parser : ValueParser) (xs ys : List Text) → values_kinds ignore_case parser xs ≡ [] → values_kinds ignore_case parser ys ≡ []
@@ -95,6 +100,15 @@ module _ (c : List Rule) where
   set_fits again a (v ∷ vs) rows own one range fault k =
       values_fit a CommandLine (v ∷ vs) (without a.id rows) own (neither (repeat_fault again a.id rows) (values_fault a (v ∷ vs)) fault).1 (omega arith) (without_fits a.id rows k)
 
+  -- one use of a flag
+  flag_fits : (again : Bool) (a : Rule) (values : List Text) (rows : List Row) → arg_by_id c a.id ≡ Some a → 0 < length a.missing
+      → action_fault SetTrue again a (values_or_missing a values) rows ≡ [] → Each (Fits c) rows
+      → Each (Fits c) (used_as SetTrue a.id (reading_by a) (values_or_missing a values) rows)
+  flag_fits again a [] rows own some fault k =
+      values_fit a CommandLine a.missing (without a.id rows) own (neither (repeat_fault again a.id rows) (values_fault a a.missing) fault).1 some (without_fits a.id rows k)
+  flag_fits again a (v ∷ vs) rows own some fault k =
+      values_fit a CommandLine (v ∷ vs) (without a.id rows) own (neither (repeat_fault again a.id rows) (values_fault a (v ∷ vs)) fault).1 (omega arith) (without_fits a.id rows k)
+
   -- one use of any rule
   pub used_fits : (again : Bool) (a : Rule) (values : List Text) (rows : List Row) → Reads c a → use_fault again a values rows ≡ [] → Each (Fits c) rows
       → Each (Fits c) (used a values rows)
@@ -102,15 +116,18 @@ module _ (c : List Rule) where
       let steps = neither (range_kinds (unwrap_or_range a.range).start_inclusive (most_values a) (length values)) (action_fault (action_of a) again a (values_or_missing a values) rows) e in
       go reads.1 steps.0 steps.1
     where
-      go : (action_of a ≡ Help) ⊎ ((action_of a ≡ Set) × ((unwrap_or_range a.range).start_inclusive ≡ 1))
+      go : Kind a
           → range_kinds (unwrap_or_range a.range).start_inclusive (most_values a) (length values) ≡ [] → action_fault (action_of a) again a (values_or_missing a values) rows ≡ []
           → Each (Fits c) (used a values rows)
       go (inl help) range fault =
           let bad : kind.DisplayHelp ∷ [] ≡ [] = subst (λ x. action_fault x again a (values_or_missing a values) rows ≡ []) help fault in
           cc
-      go (inr option) range fault =
+      go (inr (inl option)) range fault =
           subst (λ x. Each (Fits c) (used_as x a.id (reading_by a) (values_or_missing a values) rows)) (sym option.0)
           (set_fits again a values rows reads.0 option.1 range (subst (λ x. action_fault x again a (values_or_missing a values) rows ≡ []) option.0 fault) k)
+      go (inr (inr flag)) range fault =
+          subst (λ x. Each (Fits c) (used_as x a.id (reading_by a) (values_or_missing a values) rows)) (sym flag.0)
+          (flag_fits again a values rows reads.0 flag.1 (subst (λ x. action_fault x again a (values_or_missing a values) rows ≡ []) flag.0 fault) k)
 
   default_fits : (a : Rule) (rows : List Row) → arg_by_id c a.id ≡ Some a → default_fault rows a ≡ [] → Each (Fits c) rows → Each (Fits c) (with_default rows a)
   default_fits a rows own e k = go (has_row a.id rows) a.defaults e
@@ -250,3 +267,21 @@ text_given rows id r at some = go r.values refl some
     go : (vs : List Text) → r.values ≡ vs → 0 < length vs → (t : Text) × (first_of id rows ≡ Some t)
     go [] is some = absurd (omega arith)
     go (v ∷ vs) is some = (v, ap (option_and_then (λ (x : Row). slice_get x.values 0)) at ∙ ap (λ ws. slice_get ws 0) is)
+
+-- whether a flag is given
+pub flag_given : (ignore_case : Bool) (rows : List Row) (id : Text) (r : Row) → find (λ x. bytes_eq x.id id) rows ≡ Some r
+    → values_kinds ignore_case parser.Bool r.values ≡ [] → 0 < length r.values → (given : Bool) × HasFlag rows id given
+flag_given ignore_case rows id r at none some = go r.values refl none some
+  where
+    row_at : (v : Text) (vs : List Text) → r.values ≡ v ∷ vs → first_of id rows ≡ Some v
+    row_at v vs is = ap (option_and_then (λ (x : Row). slice_get x.values 0)) at ∙ ap (λ ws. slice_get ws 0) is
+
+    is_one : (v : Text) (vs : List Text) → r.values ≡ v ∷ vs → (b : Bool) → bytes_eq v (codes "true") ≡ b → (b || bytes_eq v (codes "false")) ≡ true
+        → (given : Bool) × HasFlag rows id given
+    is_one v vs is true same e = (true, row_at v vs is ∙ ap Some ((bytes_eq-Decides v (codes "true")).0 same))
+    is_one v vs is false same e = (false, row_at v vs is ∙ ap Some ((bytes_eq-Decides v (codes "false")).0 e))
+
+    go : (vs : List Text) → r.values ≡ vs → values_kinds ignore_case parser.Bool vs ≡ [] → 0 < length vs → (given : Bool) × HasFlag rows id given
+    go [] is none some = absurd (omega arith)
+    go (v ∷ vs) is none some =
+        is_one v vs is (bytes_eq v (codes "true")) refl (accepted ignore_case parser.Bool v (neither (value_kinds ignore_case parser.Bool v) (values_kinds ignore_case parser.Bool vs) none).0)

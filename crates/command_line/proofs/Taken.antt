@@ -15,7 +15,7 @@ use Rattle.command_line.specs.declared.options.ServeOptions.{ServeOptions}
 use Rattle.command_line.specs.Commands.{AsksFor, IsAction, IsTaken, command_line}
 use Rattle.command_line.specs.Options.{HasOptions, serve_command}
 use Rattle.command_line.proofs.Walks.{Each, end_keeps, neither, walk_keeps}
-use Rattle.command_line.proofs.Given.{Fits, Reads, default_given, defaults_fit, found_fits, given_row, number_given, text_given, used_fits}
+use Rattle.command_line.proofs.Given.{Fits, Reads, default_given, defaults_fit, flag_given, found_fits, given_row, number_given, text_given, used_fits}
 
 -- the table and its `serve`, as clap completes them
 abbrev line : App
@@ -26,7 +26,7 @@ serve = built_leaf serve_command.top
 
 serve_reads : Each (Reads serve.rules) serve.rules
 serve_reads =
-    ((refl, inr (refl, refl)), ((refl, inr (refl, refl)), ((refl, inr (refl, refl)), ((refl, inr (refl, refl)), ((refl, inr (refl, refl)), ((refl, inr (refl, refl)), ((refl, inr (refl, refl)), ((refl, inr (refl, refl)), ((refl, inr (refl, refl)), ((refl, inl refl), tt))))))))))
+    ((refl, inr (inl (refl, refl))), ((refl, inr (inl (refl, refl))), ((refl, inr (inl (refl, refl))), ((refl, inr (inl (refl, refl))), ((refl, inr (inl (refl, refl))), ((refl, inr (inl (refl, refl))), ((refl, inr (inl (refl, refl))), ((refl, inr (inl (refl, refl))), ((refl, inr (inl (refl, refl))), ((refl, inr (inr (refl, omega arith))), ((refl, inl refl), tt)))))))))))
 
 -- the rows of options that `serve` takes
 serve_fits : (words : List Text) → level_fault serve [] nothing_held words false [] ≡ [] → Each (Fits serve.rules) (rows_after serve.rules [] words)
@@ -47,11 +47,11 @@ three_given false b d other e = cc
 three_given true false d other e = cc
 three_given true true false other e = cc
 
--- the values of the nine options
+-- the values of the ten options
 options_read : (rows : List Row) → Each (Fits serve.rules) rows → is_given (codes "port") rows ≡ true → is_given (codes "agents") rows ≡ true → is_given (codes "state") rows ≡ true
     → has_row (codes "interval") rows ≡ true → has_row (codes "task-seconds") rows ≡ true → has_row (codes "conns") rows ≡ true → has_row (codes "idle-seconds") rows ≡ true → has_row (codes "workers") rows ≡ true
-    → has_row (codes "memory") rows ≡ true → (o : ServeOptions) × HasOptions rows o
-options_read rows fits port agents state interval task_seconds connections idle_seconds workers memory =
+    → has_row (codes "memory") rows ≡ true → has_row (codes "keep-serving") rows ≡ true → (o : ServeOptions) × HasOptions rows o
+options_read rows fits port agents state interval task_seconds connections idle_seconds workers memory keep_serving =
     let row = λ (id : Text) (has : has_row id rows ≡ true). found_fits serve.rules id rows has fits in
     let p = row (codes "port") (given_row (codes "port") rows port) in
     let a = row (codes "agents") (given_row (codes "agents") rows agents) in
@@ -62,6 +62,7 @@ options_read rows fits port agents state interval task_seconds connections idle_
     let d = row (codes "idle-seconds") idle_seconds in
     let w = row (codes "workers") workers in
     let m = row (codes "memory") memory in
+    let k = row (codes "keep-serving") keep_serving in
     let port_is = number_given 16 1 65535 false rows (codes "port") p.0 p.1 p.2.0 p.2.1 p.2.2 (omega arith) in
     let agents_is = text_given rows (codes "agents") a.0 a.1 a.2.2 in
     let state_is = text_given rows (codes "state") s.0 s.1 s.2.2 in
@@ -70,7 +71,8 @@ options_read rows fits port agents state interval task_seconds connections idle_
     let connections_is = number_given 64 0 18446744073709551615 false rows (codes "conns") c.0 c.1 c.2.0 c.2.1 c.2.2 (omega arith) in
     let idle_seconds_is = number_given 64 0 86400 false rows (codes "idle-seconds") d.0 d.1 d.2.0 d.2.1 d.2.2 (omega arith) in
     let workers_is = number_given 32 0 8192 false rows (codes "workers") w.0 w.1 w.2.0 w.2.1 w.2.2 (omega arith) in
-    let memory_is = number_given 64 0 1048576 false rows (codes "memory") m.0 m.1 m.2.0 m.2.1 m.2.2 (omega arith) in (
+    let memory_is = number_given 64 0 1048576 false rows (codes "memory") m.0 m.1 m.2.0 m.2.1 m.2.2 (omega arith) in
+    let keep_serving_is = flag_given false rows (codes "keep-serving") k.0 k.1 k.2.1 k.2.2 in (
       record {
         port = port_is.0;
         agents = record { ref_ptr = (0, 0); now = agents_is.0 };
@@ -81,6 +83,7 @@ options_read rows fits port agents state interval task_seconds connections idle_
         idle_seconds = idle_seconds_is.0;
         workers = workers_is.0;
         memory = memory_is.0;
+        keep_serving = keep_serving_is.0;
       },
       record {
         port = port_is.1;
@@ -92,6 +95,7 @@ options_read rows fits port agents state interval task_seconds connections idle_
         idle_seconds = idle_seconds_is.1;
         workers = workers_is.1;
         memory = memory_is.1;
+        keep_serving = keep_serving_is.1;
       },
     )
 
@@ -108,7 +112,7 @@ serve_taken words e =
     options_read rows (serve_fits words e) given.0 given.1 given.2
     (default_given (codes "interval") serve.rules before refl) (default_given (codes "task-seconds") serve.rules before refl) (default_given (codes "conns") serve.rules before refl)
     (default_given (codes "idle-seconds") serve.rules before refl) (default_given (codes "workers") serve.rules before refl)
-    (default_given (codes "memory") serve.rules before refl)
+    (default_given (codes "memory") serve.rules before refl) (default_given (codes "keep-serving") serve.rules before refl)
 
 -- a walk through the table's own words stops at no help
 stops_at_command : (words : List Text) → walk_fault line.top (names_of line) (walk_from nothing_held) words ≡ []

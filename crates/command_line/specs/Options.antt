@@ -1,13 +1,19 @@
 -- The options of `serve`.
-use Rattle.std.specs.Prelude.{◌≡◌, ◌<◌, ◌^◌, ℕ, true, List, [], ◌∷◌, codes, Some}
+use Rattle.std.specs.Prelude.{◌≡◌, ◌<◌, ◌^◌, ℕ, Bool, true, List, [], ◌∷◌, codes, Some}
 use Rattle.std.specs.Str.Parse.{IsNumeral, digits_value, without_leading_plus}
+use Rattle.clap.specs.Values.{bool_text}
 use Rattle.clap.specs.Words.{App, Row, Rule, Text, first_of, new_app, new_rule, one_of, with_rule}
+use Rattle.clap.specs.declared.builder.action.ArgAction.TheVariants.{SetTrue}
 use Rattle.clap.specs.declared.builder.value_parser.ValueParser.TheVariants.{Unsigned}
 use Rattle.command_line.specs.declared.options.ServeOptions.{ServeOptions}
 
 -- an option that takes a value
 abbrev pub option : Text → Rule
 option name = record (new_rule name) { long = Some name; value_names = 1 }
+
+-- an option without a value, which is given or not
+abbrev pub flag : Text → Rule
+flag name = record (new_rule name) { long = Some name; action = Some SetTrue }
 
 abbrev pub asked_for : Rule → Rule
 asked_for a = record a { required = true }
@@ -47,6 +53,9 @@ workers = otherwise (codes "0") (number_in 0 8192 (option (codes "workers")))
 abbrev pub memory : Rule
 memory = otherwise (codes "0") (number_in 0 1048576 (option (codes "memory")))
 
+abbrev pub keep_serving : Rule
+keep_serving = flag (codes "keep-serving")
+
 -- with the options that are required
 abbrev pub with_required : App → App
 with_required a = with_rule (with_rule (with_rule a port) agents) state
@@ -54,8 +63,8 @@ with_required a = with_rule (with_rule (with_rule a port) agents) state
 -- and with those that aren't
 abbrev pub with_optional : App → App
 with_optional a =
-    with_rule (with_rule (with_rule (with_rule (with_rule (with_rule a interval) task_seconds)
-    connections) idle_seconds) workers) memory
+    with_rule (with_rule (with_rule (with_rule (with_rule (with_rule (with_rule a interval)
+    task_seconds) connections) idle_seconds) workers) memory) keep_serving
 
 -- the command `serve`
 abbrev pub serve_command : App
@@ -69,6 +78,10 @@ pub record HasNumber (bits : ℕ) (rows : List Row) (id : Text) (n : ℕ) : Type
   pub fits : n < 2 ^ bits
   pub value : n ≡ digits_value 10 (without_leading_plus text)
 
+-- a flag is given, or not
+abbrev pub HasFlag : List Row → Text → Bool → Type 0
+HasFlag rows id given = first_of id rows ≡ Some (bool_text given)
+
 -- the options have these values
 pub record HasOptions (rows : List Row) (o : ServeOptions) : Type 0 where
   pub port : HasNumber 16 rows (codes "port") o.port
@@ -80,3 +93,4 @@ pub record HasOptions (rows : List Row) (o : ServeOptions) : Type 0 where
   pub idle_seconds : HasNumber 64 rows (codes "idle-seconds") o.idle_seconds
   pub workers : HasNumber 32 rows (codes "workers") o.workers
   pub memory : HasNumber 64 rows (codes "memory") o.memory
+  pub keep_serving : HasFlag rows (codes "keep-serving") o.keep_serving

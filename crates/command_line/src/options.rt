@@ -1,12 +1,13 @@
 //! The command `serve` and its options.
 
-ghost use Rattle.std.specs.Prelude.{◌≡◌, ℕ, option_map, IfOk, IfSome, IfNone};
+ghost use Rattle.std.specs.Prelude.{◌≡◌, ℕ, Bool, option_map, IfOk, IfSome, IfNone};
 ghost use Rattle.command_line.specs.declared.options.ServeOptions.{ServeOptions as Options};
+ghost use Rattle.clap.specs.Values.{bool_text};
 ghost use Rattle.clap.specs.Words.{app_of, first_of, found_of, rows_of, rule_of};
 ghost use Rattle.command_line.specs.Options as options;
 
 use clap::builder::ValueParser;
-use clap::{Arg, ArgMatches, Command};
+use clap::{Arg, ArgAction, ArgMatches, Command};
 use std::alloc::{AllocError, Global};
 
 /// What a cluster is served with.
@@ -32,6 +33,8 @@ pub struct ServeOptions<'a> {
     pub workers: u32,
     /// The server ends once it has so many MiB of memory, from 0 to 1,048,576; with 0 it doesn't.
     pub memory: u64,
+    /// Whether the server goes on where memory or a thread is refused for a connection.
+    pub keep_serving: bool,
 }
 
 const SERVE_ABOUT: &str =
@@ -55,13 +58,14 @@ FILE is refused, the line behind the refusal names the place. `jq -c . FILE` mak
 No command of a task is run: a task is a timer, and its executor is simulated.
 
 DIR is a folder that is there. Each agent keeps its record in `agent-NAME.db` in it, and the master the number of its run in
-`master.db`; both are SQLite stores, each with a log beside it (`agent-NAME.db-wal`, `master.db-wal`) that is folded into it after at
-most 1000 saves. For a backup copy all files of the folder while no server uses it. A limit on the size of files (`ulimit -f`) ends
-the process by its signal, unless that is ignored where it is started.
+`master.db`; both are SQLite stores, each with a log beside it (`agent-NAME.db-wal`, `master.db-wal`) that is folded into it at each
+start and after at most 1000 saves. Where sqlite3 reads a store it has a third file while it does (`-shm`). For a backup copy all
+files of the folder while no server uses it, or each store by the `.backup` of sqlite3 then. A limit on the size of files
+(`ulimit -f`) ends the process by its signal, unless that is ignored where it is started.
 
 Started again on the same folder, the agents come up over their records, with their tasks, and frameworks resubscribe by their ids.
-One server uses a folder at a time: `master.db` is locked from before its first read until the server ends, and a second server ends
-at once (K1 Store).
+One server uses a folder at a time: `master.db` is locked from before its first read until the server ends, each agent's store from
+its load until the agent's activity ends, and a second server ends at once (K1 Store).
 
 The master makes a round of offers each `--interval` seconds. A task runs at its agent's next turn (TASK_RUNNING), and ends by
 itself `--task-seconds` later (TASK_FINISHED); with 0 it runs until it is killed. Updates are sent again until they are
@@ -77,11 +81,18 @@ is noticed when a write to it fails, no later than at its second HEARTBEAT from 
 seconds, and with one over 15 after at most twice `--interval`. Its offers come back then.
 
 A connection from which no byte came for `--idle-seconds` is at the end of its input: between requests it ends without a word, within
-one its request is refused (H1 BadHead, H6 BadBody). The stream of a framework isn't read, and stays.
+one its request is refused (H1 BadHead, H6 BadBody). So it is where a head takes ten times as long in all. The stream of a framework
+isn't read, and stays; a client that doesn't take a response or an event within 30 seconds is hung up.
 
-Where an agent's record can't be kept any more, or a thread or memory is refused, the server ends: it says why, answers what it is
-answering, ends the streams and the connections that wait, and is gone within two seconds of its last answer. A connection that the
-system can't make is told once a minute, and the server goes on.
+Of eight bodies at most over 64 KiB are read at once. Another one waits for its turn as long as a connection may be without a byte,
+and its request is refused then (H6 BadBody), as it is where the rest of it takes ten times as long in all.
+
+A record that can't be saved, as on a full disk, is tried again each second: that is told on standard error once when it begins and
+once when it is over. Where its store can't be opened again either, or a thread or memory is refused, the server ends: it says why,
+answers what it is answering, ends the streams and the connections that wait, and is gone within two seconds of its last answer. With
+`--keep-serving` a refused thread, or want of memory for a connection, doesn't end it: a connection without a thread is closed
+unanswered, and the next one waits a moment. That is told once a minute, and so is a connection that the system can't make, with
+which it always goes on.
 
 The history of a cluster is kept whole, in memory. With `--memory` MIB the server ends once it has so many MiB: it says so, and its
 status is 3. Started again, as a supervisor does, it goes on from its records.
@@ -110,6 +121,16 @@ fn number_option<'a>(alloc: Global, name: &'a str, help: &'a str, least: u64, mo
     ensures { rule_of result ≡ options.number_in least most (options.option name.entry.now) }
 {
     option(alloc, name, "N", help).value_parser(ValueParser::unsigned(least, most))
+}
+
+/// An option without a value, which is given or not.
+fn flag<'a>(alloc: Global, name: &'a str, help: &'a str) -> Arg<'a>
+    ensures { rule_of result ≡ options.flag name.entry.now }
+{
+    Arg::new(alloc, name)
+        .long(name)
+        .action(ArgAction::SetTrue)
+        .help(help)
 }
 
 fn port<'a>(alloc: Global) -> Arg<'a>
@@ -221,6 +242,16 @@ fn memory<'a>(alloc: Global) -> Arg<'a>
     .default_value("0")
 }
 
+fn keep_serving<'a>(alloc: Global) -> Arg<'a>
+    ensures { rule_of result ≡ options.keep_serving }
+{
+    flag(
+        alloc,
+        "keep-serving",
+        "a refused thread, or want of memory for a connection, doesn't end the server",
+    )
+}
+
 /// With the options that are required.
 fn with_required<'a>(alloc: Global, command: Command<'a>) -> Result<Command<'a>, AllocError>
     ensures { IfOk result (λ more. app_of more ≡ options.with_required (app_of command.entry)) }
@@ -239,7 +270,8 @@ fn with_optional<'a>(alloc: Global, command: Command<'a>) -> Result<Command<'a>,
     let with_connections = with_task_seconds.arg(connections(alloc))?;
     let with_idle_seconds = with_connections.arg(idle_seconds(alloc))?;
     let with_workers = with_idle_seconds.arg(workers(alloc))?;
-    with_workers.arg(memory(alloc))
+    let with_memory = with_workers.arg(memory(alloc))?;
+    with_memory.arg(keep_serving(alloc))
 }
 
 /// The command `serve` and its options.
@@ -286,6 +318,30 @@ fn number_in(found: &ArgMatches, name: &str) -> Option<u64>
     found.get_one::<u64>(name)
 }
 
+/// Whether a flag with this text is given.
+fn flag_of(text: &str) -> Option<bool>
+    ensures found { IfSome result (λ given. text.now ≡ bool_text given) }
+    ensures none { IfNone result ((given : Bool) → text.now ≡ bool_text given → ⊥) }
+{
+    match text {
+        "true" => Some(true),
+        "false" => Some(false),
+        _ => None,
+    }
+}
+
+/// Whether a flag is given.
+fn flag_in(found: &ArgMatches, name: &str) -> Option<bool>
+    ensures found { IfSome result (options.HasFlag (rows_of (found_of found.now)) name.now) }
+    ensures none { IfNone result ((given : Bool)
+        → options.HasFlag (rows_of (found_of found.now)) name.now given → ⊥) }
+{
+    match text_in(found, name) {
+        Some(text) => flag_of(text),
+        None => None,
+    }
+}
+
 /// What a cluster is served with, by the options that were found.
 pub(crate) fn serve_options<'a>(found: &ArgMatches<'a>) -> Option<ServeOptions<'a>>
     ensures found { IfSome result (options.HasOptions (rows_of (found_of found.now))) }
@@ -302,5 +358,6 @@ pub(crate) fn serve_options<'a>(found: &ArgMatches<'a>) -> Option<ServeOptions<'
         idle_seconds: number_in(found, "idle-seconds")?,
         workers: count_in(found, "workers")?,
         memory: number_in(found, "memory")?,
+        keep_serving: flag_in(found, "keep-serving")?,
     })
 }

@@ -1,6 +1,8 @@
 //! One connection: reading a request, asking the bench, and answering.
 
 ghost use Rattle.std.specs.Prelude.{◌≡◌, ◌<◌, ◌⊎◌, ◌++◌, ℕ, List, [], OnOk, IsErrOf, if◌then◌else◌};
+ghost use Rattle.call_json.specs.Calls.{read_call};
+ghost use Rattle.call_members.specs.Answers.{Gives};
 ghost use Rattle.http_head.specs.Heads.{IsWithinLimit};
 ghost use Rattle.http_request.specs.declared.fault.LinkFault.TheVariants.{Failed};
 ghost use Rattle.http_door.specs.Deeds.{Deed, Chain, TurnsSpent};
@@ -14,8 +16,9 @@ use crate::refusal::Refusal;
 use crate::send::{refuse, send};
 use crate::stream::serve_stream;
 use call_json::read_call;
+use call_members::CallFault;
 use http_head::Plan;
-use http_request::{Head, Inlet, LinkFault, Received, Unread, next_head, read_body};
+use http_request::{Head, Inlet, LinkFault, Received, Section, Unread, next_head, read_body};
 use http_text::{accepted_response, continue_response};
 use mails::Call;
 use std::alloc::Global;
@@ -71,24 +74,36 @@ fn answer_call<O: Outlet, B: Bench, G: Gate>(
     }
 }
 
-/// Reads the call of a request that is there whole, and answers it.
-fn answer_body<O: Outlet, B: Bench, G: Gate>(
+/// Reads the call of a body, and lets go of the body.
+fn call_of(alloc: Global, body: Vec<u8>) -> Result<Call, CallFault>
+    ensures { Gives (λ call. call) result (read_call body.items) }
+{
+    read_call(alloc, &body)
+}
+
+/// Reads the call of a request that is there whole, and answers it once its body is let go of.
+fn answer_body<I: Inlet, O: Outlet, B: Bench, G: Gate>(
     alloc: Global,
+    inlet: &mut I,
     outlet: &mut O,
     bench: &mut B,
     gate: &G,
     plan: Plan,
-    body: &[u8],
+    body: Vec<u8>,
 ) -> Result<bool, LinkFault>
     requires { O.faults outlet.old < u64.MAX }
     ensures answered { (deeds : List Deed) × (sent : List ℕ)
         × Chain B.does bench.old deeds bench.new × O.writes outlet.old sent outlet.new
-        × RespondsTo result plan body.now deeds sent }
+        × RespondsTo result plan body.items deeds sent }
+    ensures unread { I.reads inlet.old [] inlet.new }
+    ensures read_sound { I.faults inlet.new ≡ I.faults inlet.old }
     ensures sound { OnOk result (O.faults outlet.new ≡ O.faults outlet.old) }
     ensures link { IsErrOf result Failed → (O.faults outlet.old < O.faults outlet.new)
         ⊎ TurnsSpent B.does bench.old bench.new }
 {
-    match read_call(alloc, body) {
+    let read = call_of(alloc, body);
+    inlet.begin(Section::Answer, 0);
+    match read {
         Ok(call) => answer_call(alloc, outlet, bench, gate, plan, call),
         Err(fault) => refuse_last(alloc, outlet, Refusal::Call(fault)),
     }
@@ -136,7 +151,7 @@ fn answer_plan<I: Inlet, O: Outlet, B: Bench, G: Gate>(
         Err(fault) => return Err(fault),
     }
     match read_body(alloc, inlet, unread, plan.body) {
-        Ok(Received::Whole(body)) => answer_body(alloc, outlet, bench, gate, plan, &body),
+        Ok(Received::Whole(body)) => { answer_body(alloc, inlet, outlet, bench, gate, plan, body) }
         Ok(Received::Refused(fault)) => refuse_last(alloc, outlet, Refusal::Request(fault)),
         Err(fault) => Err(fault),
     }

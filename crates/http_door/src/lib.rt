@@ -15,7 +15,7 @@ mod stream;
 pub use bench::{Answer, Bench};
 pub use conn::serve_conn;
 pub use gate::{Gate, NoGate};
-pub use http_request::{Inlet, LinkFault};
+pub use http_request::{Inlet, LinkFault, Section};
 pub use memory::{Sink, Source};
 pub use outlet::Outlet;
 pub use refusal::{BenchFault, Refusal};

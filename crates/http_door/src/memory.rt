@@ -4,7 +4,7 @@ ghost use Rattle.std.specs.Prelude.{◌≡◌, ℕ, ◌+◌, ◌<◌, ◌≤◌,
 ghost use Rattle.http_door.specs.Memory.{SourceReads, SinkWrites, has_ended, source_faults, sink_faults, source_reads_nothing, source_reads_more, sink_writes_nothing, sink_writes_more};
 
 use crate::outlet::Outlet;
-use http_request::Inlet;
+use http_request::{Inlet, Section};
 
 /// Removes the first bytes.
 fn drop_front(bytes: &mut Vec<u8>, count: usize)
@@ -45,6 +45,8 @@ impl Inlet for Source {
         Some(count)
     }
 
+    fn begin(&mut self, _section: Section, _there: usize) {}
+
     ghost reads_nothing = { source_reads_nothing };
 
     ghost reads_more = { source_reads_more };
@@ -74,6 +76,8 @@ impl Outlet for Sink {
         self.turns -= 1;
         Some(count)
     }
+
+    fn begin_text(&mut self) {}
 
     ghost writes_nothing = { sink_writes_nothing };
 

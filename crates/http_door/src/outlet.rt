@@ -21,6 +21,11 @@ pub trait Outlet {
         ensures failed { IfNone result
             (writes self.old [] self.new × (faults self.old < faults self.new)) };
 
+    /// From now on one text is written, which is sent whole: a response, or a chunk of a stream.
+    fn begin_text(&mut self)
+        ensures unwritten { writes self.old [] self.new }
+        ensures sound { faults self.new ≡ faults self.old };
+
     ghost writes_nothing: { (s : Self) → writes s [] s };
 
     ghost writes_more: { (a b c : Self) (x y : List ℕ) → writes a x b → writes b y c

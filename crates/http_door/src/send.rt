@@ -15,8 +15,8 @@ use http_text::{refusal_response, size_lines};
 use scheduler_events::Event;
 use std::alloc::Global;
 
-/// Writes a text whole.
-pub fn send<O: Outlet>(outlet: &mut O, text: &[u8]) -> Result<(), LinkFault>
+/// Writes what is left of a text, or a part of it, whole.
+fn write_whole<O: Outlet>(outlet: &mut O, text: &[u8]) -> Result<(), LinkFault>
     requires { O.faults outlet.old < u64.MAX }
     ensures sent { (sent : List ℕ) × O.writes outlet.old sent outlet.new
         × Sends result text.now sent }
@@ -33,6 +33,18 @@ pub fn send<O: Outlet>(outlet: &mut O, text: &[u8]) -> Result<(), LinkFault>
     Ok(())
 }
 
+/// Sends a text.
+pub fn send<O: Outlet>(outlet: &mut O, text: &[u8]) -> Result<(), LinkFault>
+    requires { O.faults outlet.old < u64.MAX }
+    ensures sent { (sent : List ℕ) × O.writes outlet.old sent outlet.new
+        × Sends result text.now sent }
+    ensures sound { OnOk result (O.faults outlet.new ≡ O.faults outlet.old) }
+    ensures link { IsErrOf result Failed → O.faults outlet.old < O.faults outlet.new }
+{
+    outlet.begin_text();
+    write_whole(outlet, text)
+}
+
 /// Writes the response to a request that is refused.
 pub fn refuse<O: Outlet>(alloc: Global, outlet: &mut O, refusal: Refusal) -> Result<(), LinkFault>
     requires { O.faults outlet.old < u64.MAX }
@@ -47,7 +59,7 @@ pub fn refuse<O: Outlet>(alloc: Global, outlet: &mut O, refusal: Refusal) -> Res
     }
 }
 
-/// Writes a text and a line end.
+/// Writes the end of a text, and a line end.
 fn send_line<O: Outlet>(outlet: &mut O, text: &[u8]) -> Result<(), LinkFault>
     requires { O.faults outlet.old < u64.MAX }
     ensures sent { (sent : List ℕ) × O.writes outlet.old sent outlet.new
@@ -55,8 +67,8 @@ fn send_line<O: Outlet>(outlet: &mut O, text: &[u8]) -> Result<(), LinkFault>
     ensures sound { OnOk result (O.faults outlet.new ≡ O.faults outlet.old) }
     ensures link { IsErrOf result Failed → O.faults outlet.old < O.faults outlet.new }
 {
-    match send(outlet, text) {
-        Ok(()) => send(outlet, b"\r\n"),
+    match write_whole(outlet, text) {
+        Ok(()) => write_whole(outlet, b"\r\n"),
         Err(fault) => Err(fault),
     }
 }
@@ -74,18 +86,18 @@ fn send_parts<O: Outlet>(
     ensures sound { OnOk result (O.faults outlet.new ≡ O.faults outlet.old) }
     ensures link { IsErrOf result Failed → O.faults outlet.old < O.faults outlet.new }
 {
-    match send(outlet, chunk_line) {
+    match write_whole(outlet, chunk_line) {
         Ok(()) => {}
         Err(fault) => return Err(fault),
     }
-    match send(outlet, record_line) {
+    match write_whole(outlet, record_line) {
         Ok(()) => {}
         Err(fault) => return Err(fault),
     }
     send_line(outlet, text)
 }
 
-/// Writes the chunk of an event with this text, which isn't copied.
+/// Writes the chunk of an event with this text, which isn't copied, as one text.
 fn send_chunk<O: Outlet>(alloc: Global, outlet: &mut O, text: &[u8]) -> Result<(), LinkFault>
     requires { O.faults outlet.old < u64.MAX }
     ensures sent { (sent : List ℕ) × O.writes outlet.old sent outlet.new
@@ -94,12 +106,15 @@ fn send_chunk<O: Outlet>(alloc: Global, outlet: &mut O, text: &[u8]) -> Result<(
     ensures link { IsErrOf result Failed → O.faults outlet.old < O.faults outlet.new }
 {
     match size_lines(alloc, text.len()) {
-        Ok(lines) => send_parts(
-            outlet,
-            lines.chunk.as_bytes(),
-            lines.record.as_bytes(),
-            text,
-        ),
+        Ok(lines) => {
+            outlet.begin_text();
+            send_parts(
+                outlet,
+                lines.chunk.as_bytes(),
+                lines.record.as_bytes(),
+                text,
+            )
+        }
         Err(_) => Err(LinkFault::OutOfMemory),
     }
 }

@@ -7,10 +7,14 @@ ghost use Rattle.http_request.specs.declared.fault.LinkFault.TheVariants.{Failed
 
 use crate::chunks::{Step, next_chunk};
 use crate::fault::LinkFault;
-use crate::inlet::Inlet;
+use crate::inlet::{Inlet, Section};
 use crate::unread::Unread;
 use http_head::{Body, RequestFault};
 use std::alloc::Global;
+
+/// Room for so many bytes of a body is asked for before they have come; for more it is asked for
+/// as they come.
+const ROOM: usize = 65_536;
 
 /// What came of a body.
 #[derive(Drop)]
@@ -20,8 +24,8 @@ pub enum Received {
     Refused(RequestFault),
 }
 
-/// Takes so many bytes of the input and adds them to the others, for which it asks room at once,
-/// and says whether they came.
+/// Takes so many bytes of the input and adds them to the others, and says whether they came.
+/// It asks room at once for the first 65,536 of them, and for the others as they come.
 pub fn take_exact<I: Inlet>(
     inlet: &mut I,
     unread: &mut Unread,
@@ -36,7 +40,7 @@ pub fn take_exact<I: Inlet>(
     ensures sound { OnOk result (I.faults inlet.new ≡ I.faults inlet.old) }
     ensures link { IsErrOf result Failed → I.faults inlet.old < I.faults inlet.new }
 {
-    if bytes.reserve(count).is_err() {
+    if bytes.reserve(count.min(ROOM)).is_err() {
         return Err(LinkFault::OutOfMemory);
     }
     let mut left = count;
@@ -103,8 +107,7 @@ fn read_sized<I: Inlet>(
 }
 
 /// Reads a body that comes so until it is there whole, and takes it, or until it is refused.
-/// Nothing after it is taken.
-pub fn read_body<I: Inlet>(
+fn take_body<I: Inlet>(
     alloc: Global,
     inlet: &mut I,
     unread: &mut Unread,
@@ -121,4 +124,23 @@ pub fn read_body<I: Inlet>(
         Body::Sized(count) => read_sized(alloc, inlet, unread, count),
         Body::Chunked => read_chunks(alloc, inlet, unread),
     }
+}
+
+/// Reads a body that comes so until it is there whole, and takes it, or until it is refused.
+/// Nothing after it is taken. What is unread counts as read of the body.
+pub fn read_body<I: Inlet>(
+    alloc: Global,
+    inlet: &mut I,
+    unread: &mut Unread,
+    body: Body,
+) -> Result<Received, LinkFault>
+    requires countable { I.faults inlet.old < u64.MAX }
+    requires limit { IsWithinLimit body }
+    ensures found { (more : List ℕ) × I.reads inlet.old more inlet.new
+        × FindsBody result body (unread.old ++ more) (I.ended inlet.new) unread.new }
+    ensures sound { OnOk result (I.faults inlet.new ≡ I.faults inlet.old) }
+    ensures link { IsErrOf result Failed → I.faults inlet.old < I.faults inlet.new }
+{
+    unread.begin(inlet, Section::Body);
+    take_body(alloc, inlet, unread, body)
 }

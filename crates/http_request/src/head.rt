@@ -5,7 +5,7 @@ ghost use Rattle.http_request.specs.Found.{FindsHead};
 ghost use Rattle.http_request.specs.declared.fault.LinkFault.TheVariants.{Failed};
 
 use crate::fault::LinkFault;
-use crate::inlet::Inlet;
+use crate::inlet::{Inlet, Section};
 use crate::part::{Part, next_part};
 use crate::unread::Unread;
 use http_head::{Place, Plan, RequestFault, judge_head};
@@ -21,7 +21,7 @@ pub enum Head {
 }
 
 /// Reads until a head is there, and takes it, or until one can't come.
-pub fn next_head<I: Inlet>(inlet: &mut I, unread: &mut Unread) -> Result<Head, LinkFault>
+fn take_head<I: Inlet>(inlet: &mut I, unread: &mut Unread) -> Result<Head, LinkFault>
     requires { I.faults inlet.old < u64.MAX }
     ensures found { (more : List ℕ) × I.reads inlet.old more inlet.new
         × FindsHead result (unread.old ++ more) (I.ended inlet.new) unread.new }
@@ -42,4 +42,17 @@ pub fn next_head<I: Inlet>(inlet: &mut I, unread: &mut Unread) -> Result<Head, L
         }
         Err(fault) => Ok(Head::Refused(fault)),
     }
+}
+
+/// Reads until a head is there, and takes it, or until one can't come. What is unread counts as
+/// read of the head.
+pub fn next_head<I: Inlet>(inlet: &mut I, unread: &mut Unread) -> Result<Head, LinkFault>
+    requires { I.faults inlet.old < u64.MAX }
+    ensures found { (more : List ℕ) × I.reads inlet.old more inlet.new
+        × FindsHead result (unread.old ++ more) (I.ended inlet.new) unread.new }
+    ensures sound { OnOk result (I.faults inlet.new ≡ I.faults inlet.old) }
+    ensures link { IsErrOf result Failed → I.faults inlet.old < I.faults inlet.new }
+{
+    unread.begin(inlet, Section::Head);
+    take_head(inlet, unread)
 }

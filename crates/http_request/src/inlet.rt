@@ -2,6 +2,17 @@
 
 ghost use Rattle.std.specs.Prelude.{◌≡◌, ◌<◌, ◌≤◌, ℕ, List, [], ◌++◌, length, take, Some, IfSome, OnSome, IfNone};
 
+/// What of a request is read next.
+#[derive(Clone, Copy, Debug, Drop, PartialEq, Eq)]
+pub enum Section {
+    /// Its head, with the empty lines before it.
+    Head,
+    /// Its body, with the lines of its chunks and its trailers.
+    Body,
+    /// Nothing: the request is there, and is answered.
+    Answer,
+}
+
 /// Where bytes come from.
 pub trait Inlet {
     /// From the one state to the other exactly these bytes were read.
@@ -24,6 +35,12 @@ pub trait Inlet {
         ensures sound { OnSome result (faults self.new ≡ faults self.old) }
         ensures failed { IfNone result
             (reads self.old [] self.new × (faults self.old < faults self.new)) };
+
+    /// From now on this section is read, of which so many bytes were read before.
+    /// An inlet may say so that its input is at its end sooner in one section than in another.
+    fn begin(&mut self, section: Section, there: usize)
+        ensures unread { reads self.old [] self.new }
+        ensures sound { faults self.new ≡ faults self.old };
 
     ghost reads_nothing: { (s : Self) → reads s [] s };
 

@@ -13,5 +13,5 @@ mod unread;
 pub use body::{Received, read_body};
 pub use fault::LinkFault;
 pub use head::{Head, next_head};
-pub use inlet::Inlet;
+pub use inlet::{Inlet, Section};
 pub use unread::Unread;

@@ -4,7 +4,7 @@ ghost use Rattle.std.specs.Prelude.{◌≡◌, ◌<◌, ◌≤◌, ◌+◌, ℕ,
 ghost use Rattle.http_request.specs.declared.fault.LinkFault.TheVariants.{Failed};
 
 use crate::fault::LinkFault;
-use crate::inlet::Inlet;
+use crate::inlet::{Inlet, Section};
 use std::alloc::{AllocError, Global};
 use std::marker::Model;
 
@@ -117,6 +117,14 @@ impl Unread {
         let moved = bytes.extend_from_slice(&self.as_slice()[..count]);
         self.skip(count);
         moved
+    }
+
+    /// From now on this section is read: what is here is the front of it.
+    pub fn begin<I: Inlet>(&self, inlet: &mut I, section: Section)
+        ensures unread { I.reads inlet.old [] inlet.new }
+        ensures sound { I.faults inlet.new ≡ I.faults inlet.old }
+    {
+        inlet.begin(section, self.as_slice().len());
     }
 
     /// Reads once, and says whether the input has ended.

@@ -34,6 +34,11 @@ pub trait Arrivals {
         ensures none { IfNone result (taken self.new ≡ taken self.old) }
         ensures end { IfNone result (ended self.new) };
 
+    /// A connection couldn't be served, for this fault: with `H8 OutOfMemory` none was taken, and with
+    /// `H9 NoThread` it is closed. Says whether the next one is taken all the same.
+    fn bears(&mut self, fault: HttpFault) -> bool
+        ensures { taken self.new ≡ taken self.old };
+
     /// No more connections are taken, for this fault. Who waits on those that were taken is to end.
     fn give_up(&mut self, fault: HttpFault)
         ensures { taken self.new ≡ taken self.old };

@@ -99,8 +99,8 @@ fn accept<
     }
 }
 
-/// Has all connections served, until no more come or memory or a thread is refused.
-/// It returns how many it took, and that fault.
+/// Has all connections served, until no more come, or memory or a thread is refused and the arrivals
+/// don't bear it. It returns how many it took, and that fault.
 fn accept_all<
     's,
     E,
@@ -130,14 +130,19 @@ fn accept_all<
         match accept(scope, rt, alloc, arrivals, shop, gate) {
             Ok(true) => taken = more,
             Ok(false) => return (taken, None),
-            Err(fault) => return (taken + taken_before(fault), Some(fault)),
+            Err(fault) => {
+                taken += taken_before(fault);
+                if !arrivals.bears(fault) {
+                    return (taken, Some(fault));
+                }
+            }
         }
     }
     unreachable!()
 }
 
-/// Has all connections served, until no more come, or memory or a thread is refused: then the
-/// arrivals are told so. It returns the benches of those that it took, once all have ended.
+/// Has all connections served, until no more come, or memory or a thread is refused and the arrivals
+/// don't bear it: then they are told so. It returns the benches of those that it took, once all have ended.
 fn serve_within<
     's,
     E,
@@ -230,8 +235,8 @@ where
 /// until one comes. It returns once every worker has ended, with the benches of the connections
 /// that it took from the arrivals, in no order: as many benches as connections, and since nothing
 /// here may drop a bench, those of each. Room for a bench is reserved before its connection is
-/// taken, so none is lost for want of memory. A fault ends the accepting, and the arrivals give up
-/// the connections that they gave: workers that run go on to the ends of these. With
+/// taken, so none is lost for want of memory. A fault that the arrivals don't bear ends the accepting,
+/// and they give up the connections that they gave: workers that run go on to the ends of these. With
 /// `H8 OutOfMemory` no connection was taken for which there was no memory. With `H9 NoThread` one
 /// was for which no worker was found: it is closed unanswered, and its bench is returned too. A
 /// connection that breaks off (`H7 LinkFault`, `H8 OutOfMemory`) ends alone. No contract can say

@@ -23,9 +23,10 @@ const SERVED: Action<'static> = Action::Serve(ServeOptions {
     idle_seconds: 75,
     workers: 0,
     memory: 0,
+    keep_serving: false,
 });
 
-const SERVE_SLOWLY: [&str; 14] = [
+const SERVE_SLOWLY: [&str; 15] = [
     "mesos_node",
     "serve",
     "--interval",
@@ -38,6 +39,7 @@ const SERVE_SLOWLY: [&str; 14] = [
     "--port=65535",
     "--idle-seconds=0",
     "--workers=8192",
+    "--keep-serving",
     "--memory",
     "1048576",
 ];
@@ -52,6 +54,7 @@ const SERVED_SLOWLY: Action<'static> = Action::Serve(ServeOptions {
     idle_seconds: 0,
     workers: 8_192,
     memory: 1_048_576,
+    keep_serving: true,
 });
 
 fn asks_for<'a>(alloc: Global, words: &'a [&'a str], action: Action<'a>) -> bool {

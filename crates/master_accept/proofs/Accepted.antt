@@ -1,5 +1,6 @@
 -- What ACCEPT makes of what a master holds.
-use Rattle.std.proofs.Common.{◌≡◌, ℕ, suc, ◌+◌, Bool, true, false, not, ◌&&◌, ◌||◌, if◌then◌else◌, List, [], ◌∷◌, ◌++◌, length, map, fold, Option, Some, None, option_map, Ok, refl, sym, ap, ◌∙◌, subst, bytes_eq, arith}
+use Rattle.std.specs.Result.{IsErrAnd}
+use Rattle.std.proofs.Common.{Result, Err, ◌≡◌, ℕ, suc, ◌+◌, Bool, true, false, not, ◌&&◌, ◌||◌, if◌then◌else◌, List, [], ◌∷◌, ◌++◌, length, map, fold, Option, Some, None, option_map, Ok, refl, sym, ap, ◌∙◌, subst, arith}
 use Rattle.std.specs.Prelude.{nat_lt, IfSome}
 use Rattle.std.specs.List.{find}
 use Rattle.std.proofs.lemmas.Bool.{and_from, cond-true}
@@ -24,12 +25,14 @@ use Rattle.frameworks.proofs.Ordered.{put_changed}
 use Rattle.agent_sides.specs.Configs as configs
 use Rattle.agent_sides.specs.Joined.{side_names}
 use Rattle.agent_sides.specs.Looks.{all_placed, at_name}
-use Rattle.agent_sides.specs.Own.{good_offers, sum_on}
+use Rattle.agent_sides.specs.Own.{sum_on}
 use Rattle.agent_sides.specs.declared.own.GoodOffers.{GoodOffers}
 use Rattle.master_state.specs.declared.state.State.{State}
+use Rattle.master_state.specs.declared.fault.MasterFault.{MasterFault}
+use Rattle.master_state.specs.declared.fault.MasterFault.TheVariants.{OutOfMemory, Refused}
 use Rattle.scheduler_events.specs.declared.stream_event.StreamEvent.{StreamEvent}
 use Rattle.master_state.specs.States.{without_offers}
-use Rattle.master_state.specs.Works.{Work, admission, admission_of, done, master_of, registers_of, run_of, work_of}
+use Rattle.master_state.specs.Works.{Gave, Work, admission, admission_of, done, master_of, registers_of, run_of, work_of}
 use Rattle.master_state.proofs.Admissions.{Admitted, admits}
 use Rattle.master_state.proofs.Doings.{none_more}
 use Rattle.master_state.proofs.Moves.{all_withdrawn, itself, moved_so}
@@ -37,7 +40,7 @@ use Rattle.master_accept.specs.Accepts as accepts
 use Rattle.master_accept.specs.Accepts.{Bench, Caller, accepted_good, accepted_none, accepted_so, bench, no_progress, passes_limits, refusing_on, takes_all, without_used_on}
 use Rattle.master_accept.specs.Launches.{launched_all}
 use Rattle.master_accept.proofs.Accepting.{Come, begins, lost_all, taken_all, with_events}
-use Rattle.master_accept.proofs.Launching.{Ends, Focus, change_there, focus, found_there, launches_so, moved_there, stand, step_there, to_agent}
+use Rattle.master_accept.proofs.Launching.{Ends, Focus, change_there, focus, launches_so, moved_there, stand, step_there, to_agent}
 
 -- the framework that calls isn't torn down
 untorn : (m : Master) (given : Option Numbered) (framework stream : Numbered) → admission m given framework ≡ Ok stream → is_torn m framework ≡ false
@@ -179,15 +182,8 @@ later_limit last n count = grind (arith, nat_tests)
 abbrev limits_by : ℕ → State → Bool → Bool → Bool
 limits_by count s late may = (nat_lt 0 count && nat_lt tasks_limit (length (all_placed s.sides) + count)) || late || not may
 
-limits_is : (s : State) (framework : Numbered) (ids : List Numbered) (count : ℕ) (o : Option Side) → find (λ u. is_good u framework ids) s.sides ≡ o → configs.are_ordered (side_names s.sides) ≡ true
-    → passes_limits count (option_map (sum_on framework ids) o) s ≡ model.passes_limits (master_of s) count o
-limits_is s framework ids count None e names = ap (λ late. limits_by count s late true) (later_limit last_number s.last_key count)
-limits_is s framework ids count (Some t) e names =
-    ap (λ late. limits_by count s late (may_have_numbers count (find (λ u. bytes_eq u.name t.name) s.sides))) (later_limit last_number s.last_key count)
-    ∙ ap (λ found. limits_by count s (nat_lt (suc last_number) (suc s.last_key + count)) (may_have_numbers count found)) (ap (find (λ u. bytes_eq u.name t.name)) at.is ∙ found_there t.name at.front at.back t at.others (itself t.name))
-  where
-    at : Focus (λ u. is_good u framework ids) s.sides t
-    at = focus (λ u. is_good u framework ids) s.sides t e names
+limits_is : (s : State) (count : ℕ) (o : Option Side) → passes_limits count o s ≡ model.passes_limits (master_of s) count o
+limits_is s count o = ap (λ late. limits_by count s late (may_have_numbers count o)) (later_limit last_number s.last_key count)
 
 -- ACCEPT
 
@@ -213,64 +209,67 @@ pub record Asked (s : State) (f : Framework) (caller : Caller) : Type 0 where
   pub names : configs.are_ordered (side_names s.sides) ≡ true
 
 answers_by : (s : State) (f : Framework) (caller : Caller) (ids : List Numbered) (tasks : List TaskInfo) (seconds : ℕ) → Asked s f caller → (o : Option Side) → find (λ u. is_good u f.id ids) s.sides ≡ o
-    → IfSome (option_map (sum_on f.id ids) o) (λ offers. AreRows offers.sum) → passes_limits (length tasks) (option_map (sum_on f.id ids) o) s ≡ false
+    → IfSome (option_map (sum_on f.id ids) o) (λ offers. AreRows offers.sum) → passes_limits (length tasks) o s ≡ false
     → Answer s (accepts_by (master_of s) ids tasks seconds f o) (accepts.accepted_as caller ids tasks seconds s (option_map (sum_on f.id ids) o))
 answers_by s f caller ids tasks seconds a None e rows within =
-    let limits = sym (limits_is s f.id ids (length tasks) None e a.names) ∙ within in
+    let limits = sym (limits_is s (length tasks) None) ∙ within in
     subst (λ d. Answer s d (accepted_none caller ids tasks s)) (sym (within_limits s f ids tasks seconds None limits)) (refl, none_so s f caller ids tasks seconds a.id a.stream a.names)
 answers_by s f caller ids tasks seconds a (Some t) e rows within =
-    let limits = sym (limits_is s f.id ids (length tasks) (Some t) e a.names) ∙ within in
+    let limits = sym (limits_is s (length tasks) (Some t)) ∙ within in
     subst (λ d. Answer s d (accepted_good caller (sum_on f.id ids t) ids tasks seconds s)) (sym (within_limits s f ids tasks seconds (Some t) limits))
     (refl, good_so s f caller ids tasks seconds t (record { id = a.id; stream = a.stream; torn = a.torn; known = a.known; ordered = a.ordered; at = focus (λ u. is_good u f.id ids) s.sides t e a.names; rows = rows }))
 
 abbrev calling : Numbered → Numbered → Caller
 calling framework stream = record { framework = framework; stream = stream }
 
-pub accepts_so : (s : State) (given : Option Numbered) (framework stream : Numbered) (ids : List Numbered) (tasks : List TaskInfo) (seconds : ℕ) (good : Option GoodOffers) → admission (master_of s) given framework ≡ Ok stream
-    → frameworks.are_ordered s.frameworks ≡ true → configs.are_ordered (side_names s.sides) ≡ true → good ≡ good_offers framework ids s.sides → IfSome good (λ offers. AreRows offers.sum) → passes_limits (length tasks) good s ≡ false
-    → Answer s (called (master_of s) given (calls.Accept framework ids tasks seconds)) (accepts.accepted_as (calling framework stream) ids tasks seconds s good)
-accepts_so s given framework stream ids tasks seconds good e ordered names is rows within =
-    subst (λ d. Answer s d (accepts.accepted_as caller ids tasks seconds s good)) (sym (a.does (on_accept m ids tasks seconds)))
-    (subst (λ o. IfSome o (λ offers. AreRows offers.sum) → passes_limits (length tasks) o s ≡ false → Answer s (accepts_by m ids tasks seconds f found) (accepts.accepted_as caller ids tasks seconds s o)) (sym good_is)
-    (answers_by s f caller ids tasks seconds asked found refl) rows within)
-  where
-    m : Master
-    m = master_of s
+module _ (s : State) (given : Option Numbered) (framework stream : Numbered) (ids : List Numbered) (tasks : List TaskInfo) (seconds : ℕ) (e : admission (master_of s) given framework ≡ Ok stream) where
+  abbrev pub m : Master
+  m = master_of s
 
-    a : Admitted m given framework stream
-    a = admits m given framework stream e
+  abbrev pub a : Admitted m given framework stream
+  a = admits m given framework stream e
 
-    f : Framework
-    f = a.caller
+  abbrev pub f : Framework
+  f = a.caller
 
-    caller : Caller
-    caller = calling framework stream
+  -- the agent of good offers, by the id that the call names
+  found_is : (o : Option Side) → o ≡ find (λ u. is_good u framework ids) s.sides → o ≡ good_side m f.id ids
+  found_is o is = is ∙ ap (λ i. find (λ u. is_good u i ids) s.sides) (sym a.id)
 
-    found : Option Side
-    found = good_side m f.id ids
+  doing_is : (o : Option Side) → o ≡ find (λ u. is_good u framework ids) s.sides → called m given (calls.Accept framework ids tasks seconds) ≡ accepts_by m ids tasks seconds f o
+  doing_is o is = a.does (on_accept m ids tasks seconds) ∙ ap (accepts_by m ids tasks seconds f) (sym (found_is o is))
 
-    good_is : good ≡ option_map (sum_on f.id ids) found
-    good_is = is ∙ ap (λ i. good_offers i ids s.sides) (sym a.id)
+  pub accepts_so : (good : Option GoodOffers) (o : Option Side) → frameworks.are_ordered s.frameworks ≡ true → configs.are_ordered (side_names s.sides) ≡ true
+      → o ≡ find (λ u. is_good u framework ids) s.sides → good ≡ option_map (sum_on framework ids) o → IfSome good (λ offers. AreRows offers.sum) → passes_limits (length tasks) o s ≡ false
+      → Answer s (called m given (calls.Accept framework ids tasks seconds)) (accepts.accepted_as (calling framework stream) ids tasks seconds s good)
+  accepts_so good o ordered names is sum rows within =
+      let caller = calling framework stream in
+      let asked : Asked s f caller =
+      record { id = a.id; stream = a.stream_is; torn = ap (is_torn m) a.id ∙ untorn m given framework stream e; known = a.known; ordered = ordered; names = names } in
+      let good_is : good ≡ option_map (sum_on f.id ids) o = sum ∙ ap (λ i. option_map (sum_on i ids) o) (sym a.id) in
+      subst (λ d. Answer s d (accepts.accepted_as caller ids tasks seconds s good)) (sym (doing_is o is))
+      (subst (λ g. IfSome g (λ offers. AreRows offers.sum) → Answer s (accepts_by m ids tasks seconds f o) (accepts.accepted_as caller ids tasks seconds s g)) (sym good_is)
+      (λ are. answers_by s f caller ids tasks seconds asked o (sym (found_is o is)) are within) rows)
 
-    asked : Asked s f caller
-    asked = record { id = a.id; stream = a.stream_is; torn = ap (is_torn m) a.id ∙ untorn m given framework stream e; known = a.known; ordered = ordered; names = names }
+  -- an ACCEPT past a limit is refused
+  pub limited : (o : Option Side) → o ≡ find (λ u. is_good u framework ids) s.sides → passes_limits (length tasks) o s ≡ true
+      → ((called m given (calls.Accept framework ids tasks seconds)).refusal ≡ Some LimitExceeded) × (s ≡ s)
+  limited o is past =
+      let limits = sym (limits_is s (length tasks) o) ∙ past in
+      (ap (λ d. d.refusal) (doing_is o is ∙ ap (λ b. if b then refused m LimitExceeded else model.accepted_from m ids tasks seconds f (given_by f.id ids o)) limits), refl)
 
-pub limited : (s : State) (given : Option Numbered) (framework stream : Numbered) (ids : List Numbered) (tasks : List TaskInfo) (seconds : ℕ) (good : Option GoodOffers) → admission (master_of s) given framework ≡ Ok stream
-    → configs.are_ordered (side_names s.sides) ≡ true → good ≡ good_offers framework ids s.sides → passes_limits (length tasks) good s ≡ true
-    → ((called (master_of s) given (calls.Accept framework ids tasks seconds)).refusal ≡ Some LimitExceeded) × (s ≡ s)
-limited s given framework stream ids tasks seconds good e names is past = (ap (λ d. d.refusal) (a.does (on_accept m ids tasks seconds) ∙ ap (λ b. if b then refused m LimitExceeded else model.accepted_from m ids tasks seconds f (given_by f.id ids found)) limits), refl)
-  where
-    m : Master
-    m = master_of s
+  -- another isn't
+  pub unlimited : (o : Option Side) → o ≡ find (λ u. is_good u framework ids) s.sides → passes_limits (length tasks) o s ≡ false → (called m given (calls.Accept framework ids tasks seconds)).refusal ≡ None
+  unlimited o is within =
+      let limits = sym (limits_is s (length tasks) o) ∙ within in
+      ap (λ d. d.refusal) (doing_is o is ∙ within_limits s f ids tasks seconds o limits) ∙ by_good o
+    where
+      by_good : (o : Option Side) → (model.accepted_from m ids tasks seconds f (given_by f.id ids o)).refusal ≡ None
+      by_good None = refl
+      by_good (Some t) = refl
 
-    a : Admitted m given framework stream
-    a = admits m given framework stream e
-
-    f : Framework
-    f = a.caller
-
-    found : Option Side
-    found = good_side m f.id ids
-
-    limits : model.passes_limits m (length tasks) found ≡ true
-    limits = sym (limits_is s f.id ids (length tasks) found refl names) ∙ ap (λ o. passes_limits (length tasks) o s) (sym (is ∙ ap (λ i. good_offers i ids s.sides) (sym a.id))) ∙ past
+-- a step that isn't refused may want memory
+pub by_memory : {T : Type 0} (r : Result T MasterFault) (s t : State) (d : Doing) → IsErrAnd r (λ fault. fault ≡ OutOfMemory) → d.refusal ≡ None → Gave r s t d
+by_memory (Ok x) s t d is none = absurd is
+by_memory (Err OutOfMemory) s t d is none = none
+by_memory (Err (Refused refusal)) s t d is none = absurd (cc)

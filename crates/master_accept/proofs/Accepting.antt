@@ -1,5 +1,5 @@
 -- An ACCEPT's tasks, one after the other, are taken as the model takes them.
-use Rattle.std.proofs.Common.{◌≡◌, ℕ, suc, ◌+◌, ◌≤◌, Bool, true, false, not, ◌&&◌, cond, List, [], ◌∷◌, ◌++◌, map, filter, fold, Option, Some, None, option_map, IsTrue, refl, sym, ap, ◌∙◌, subst, bytes_eq, arith}
+use Rattle.std.proofs.Common.{◌≡◌, ℕ, suc, ◌≤◌, Bool, true, false, not, ◌&&◌, cond, List, [], ◌∷◌, ◌++◌, map, filter, fold, Option, Some, None, option_map, IsTrue, refl, sym, ap, ◌∙◌, subst, bytes_eq, arith}
 use Rattle.std.specs.Prelude.{⊤, ◌-◌, nat_lt}
 use Rattle.std.proofs.lemmas.Bool.{true≢false}
 use Rattle.names_core.specs.Ids.{Numbered}

@@ -1,6 +1,5 @@
 -- What ACCEPT does, task by task.
-use Rattle.std.specs.Prelude.{ℕ, suc, ◌+◌, Bool, true, not, ◌&&◌, ◌||◌, nat_lt, if◌then◌else◌, List, [], ◌∷◌, ◌++◌, length, map, fold, Option, Some, None, option_map, bytes_eq}
-use Rattle.std.specs.List.{find}
+use Rattle.std.specs.Prelude.{ℕ, suc, ◌+◌, Bool, not, ◌&&◌, ◌||◌, nat_lt, if◌then◌else◌, List, [], ◌∷◌, ◌++◌, length, map, fold, Option, Some, None, option_map, bytes_eq}
 use Rattle.names_core.specs.Ids.{Numbered}
 use Rattle.names_core.specs.declared.state.TaskState.TheVariants.{Lost, Error}
 use Rattle.quantity.specs.declared.rows.Row.{Row}
@@ -129,11 +128,7 @@ accepted_as caller ids tasks seconds s (Some good) = accepted_good caller good i
 
 -- limits
 
-abbrev pub may_number : ℕ → Option GoodOffers → List Side → Bool
-may_number count None ss = true
-may_number count (Some good) ss = may_have_numbers count (find (λ s. bytes_eq s.name good.agent) ss)
-
-abbrev pub passes_limits : ℕ → Option GoodOffers → State → Bool
+abbrev pub passes_limits : ℕ → Option Side → State → Bool
 passes_limits count good s =
     (nat_lt 0 count && nat_lt tasks_limit (length (all_placed s.sides) + count))
-    || nat_lt last_number (s.last_key + count) || not (may_number count good s.sides)
+    || nat_lt last_number (s.last_key + count) || not (may_have_numbers count good)

@@ -3,13 +3,14 @@
 ghost use Rattle.std.specs.Prelude.{◌≡◌, ◌≤◌, ◌+◌, fold, nat_lt, length, OnOk};
 ghost use Rattle.mails.specs.declared.call.Call.TheVariants as calls;
 ghost use Rattle.cluster_model.specs.Ids.{last_number};
+ghost use Rattle.cluster_model.specs.Masters.{may_have_numbers};
 ghost use Rattle.cluster_model.specs.Calls.{called};
 ghost use Rattle.master_state.specs.Works.{Gave, master_of};
-ghost use Rattle.master_accept.specs.Accepts.{accepted_as, accepted_good, accepted_none, accepted_so, bench, may_number, passes_limits, takes_one};
+ghost use Rattle.master_accept.specs.Accepts.{accepted_as, accepted_good, accepted_none, accepted_so, bench, passes_limits, takes_one};
 
 use crate::launch::launch_all;
 use crate::take::{Caller, Progress, lose_all, take_all};
-use agent_sides::GoodOffers;
+use agent_sides::{AgentSide, GoodOffers};
 use listed::Listed;
 use mails::{MasterRefusal, TaskInfo};
 use master_state::{MasterFault, State};
@@ -22,12 +23,12 @@ const TASKS_LIMIT: u128 = 65_536;
 /// The last number of a launch key.
 const LAST_NUMBER: u128 = 4_294_967_295;
 
-fn may_number(state: &State, good: &Option<GoodOffers>, count: usize) -> bool
-    ensures { result ≡ may_number count good.now state.now.sides }
+fn may_number(good: &Option<AgentSide<'_>>, count: usize) -> bool
+    ensures { result ≡ may_have_numbers count good.now }
 {
     match good {
         None => true,
-        Some(good) => state.sides.may_have_numbers(&good.agent, count as u64),
+        Some(side) => side.has_numbers(count as u64),
     }
 }
 
@@ -40,7 +41,7 @@ fn passes(limit: u128, count: u128, more: u128) -> bool
 
 /// Whether booked tasks, launch keys or the command numbers of the
 /// offers' agent would pass their limits.
-fn passes_limits(state: &State, good: &Option<GoodOffers>, count: usize) -> bool
+fn passes_limits(state: &State, good: &Option<AgentSide<'_>>, count: usize) -> bool
     ensures { result ≡ passes_limits count good.now state.now }
 {
     if count > 0 && passes(TASKS_LIMIT, state.sides.booked_count(), count as u128) {
@@ -49,7 +50,7 @@ fn passes_limits(state: &State, good: &Option<GoodOffers>, count: usize) -> bool
     if passes(LAST_NUMBER, u128::from(state.last_key), count as u128) {
         return true;
     }
-    !may_number(state, good, count)
+    !may_number(good, count)
 }
 
 /// The offers aren't good: those of them that are current and the framework's own are withdrawn,
@@ -174,10 +175,11 @@ pub fn accept(
     };
     let _known = state.frameworks.as_slice();
     state.sides.stand_in_order();
-    let good = state.sides.good_offers(alloc, framework, offers)?;
-    if passes_limits(state, &good, tasks.len()) {
+    let side = state.sides.good_side(framework, offers);
+    if passes_limits(state, &side, tasks.len()) {
         return Err(MasterFault::Refused(MasterRefusal::LimitExceeded));
     }
+    let good = GoodOffers::of(alloc, &side, framework, offers)?;
     let caller = Caller { framework, stream };
     match accept_as(state, alloc, &caller, good, offers, tasks, seconds) {
         Ok(()) => Ok(()),

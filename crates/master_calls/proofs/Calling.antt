@@ -1,5 +1,5 @@
 -- Calls of a framework that is admitted.
-use Rattle.std.proofs.Common.{◌≡◌, ℕ, Bool, true, if◌then◌else◌, List, [], ◌∷◌, ◌++◌, map, Option, Some, None, option_map, Ok, Err, refl, sym, ap, ◌∙◌, subst}
+use Rattle.std.proofs.Common.{◌≡◌, ℕ, Bool, true, false, ◌||◌, if◌then◌else◌, List, [], ◌∷◌, ◌++◌, map, Option, Some, None, option_map, IfSome, Ok, Err, refl, sym, ap, ◌∙◌, subst}
 use Rattle.std.specs.List.{list_any}
 use Rattle.names_core.specs.Ids.{Numbered}
 use Rattle.names_core.specs.Updates.{Update}
@@ -23,7 +23,7 @@ use Rattle.master_state.specs.Works.{Work, admission, done, master_of, registers
 use Rattle.master_state.proofs.Admissions.{Admitted, admits, refuses}
 use Rattle.master_state.proofs.Doings.{keeps, moves_alone, none_more}
 use Rattle.master_state.proofs.Moves.{commanded, mails_of, moved_so}
-use Rattle.master_calls.specs.Tasks.{HeldTask, acks, held_task, kills}
+use Rattle.master_calls.specs.Tasks.{HeldTask, acks, held_task, kill_limit, kills, sends_task}
 
 -- a call that isn't admitted is refused
 pub turned_down : (s : State) (given : Option Numbered) (framework : Numbered) (refusal : MasterRefusal) (doing : Framework → Doing) → admission (master_of s) given framework ≡ Err refusal
@@ -81,6 +81,32 @@ killed m given framework stream task agent h e is =
     let a : Admitted m given framework stream = admits m given framework stream e in
     ap (kills m stream task agent) is
     ∙ sym (a.does (λ f. on_kill m task agent f (held m f.id task)) ∙ ap (λ id. on_kill m task agent a.caller (held m id task)) a.id ∙ kills_is m task agent a.caller stream a.stream_is (held m framework task))
+
+-- a KILL is refused just where a limit refuses it
+kills_refused : (m : Master) (stream : Numbered) (task : List ℕ) (agent : Option (List ℕ)) (o : Option Placed) → (kills m stream task agent (option_map held_task o)).refusal ≡ kill_limit m o
+kills_refused m stream task agent None = refl
+kills_refused m stream task agent (Some p) = by_end p.booked.ended (may_have_numbers 1 (side_of m p.agent))
+  where
+    by_end : (ended may : Bool) → (if ended then saying m (sends_task stream p.booked.job.name p.booked.state (Some p.agent))
+        else (if may then moving m (AtSide p.agent (SendKill p.booked.job.key) ∷ []) else refused m LimitExceeded)).refusal
+        ≡ (if ended || may then None else Some LimitExceeded)
+    by_end true may = refl
+    by_end false true = refl
+    by_end false false = refl
+
+pub kill_refused : (m : Master) (given : Option Numbered) (framework stream : Numbered) (task : List ℕ) (agent : Option (List ℕ)) → admission m given framework ≡ Ok stream
+    → (called m given (calls.Kill framework task agent)).refusal ≡ kill_limit m (held m framework task)
+kill_refused m given framework stream task agent e =
+    ap (λ d. d.refusal) (sym (killed m given framework stream task agent (option_map held_task (held m framework task)) e refl)) ∙ kills_refused m stream task agent (held m framework task)
+
+-- where no limit refuses a KILL a command number is left
+pub has_number : (m : Master) (o : Option Placed) → kill_limit m o ≡ None → IfSome (option_map held_task o) (λ h. (h.ended || may_have_numbers 1 (side_of m h.agent)) ≡ true)
+has_number m None e = tt
+has_number m (Some p) e = by (p.booked.ended || may_have_numbers 1 (side_of m p.agent)) e
+  where
+    by : (b : Bool) → ◌≡◌ {A = Option MasterRefusal} (if b then None else Some LimitExceeded) None → b ≡ true
+    by true e = refl
+    by false e = absurd (cc)
 
 pub acked : (m : Master) (given : Option Numbered) (framework stream : Numbered) (agent task : List ℕ) (uuid : Update) (b : Bool) → admission m given framework ≡ Ok stream → b ≡ list_any (is_received_last framework agent task uuid.key uuid.k) (all_placed m.sides)
     → acks m agent uuid.key uuid.k b ≡ called m given (calls.Acknowledge framework agent task uuid)

@@ -1,11 +1,13 @@
 -- What is sent of a held task, and what KILL and ACKNOWLEDGE do with one.
-use Rattle.std.specs.Prelude.{ℕ, Bool, if◌then◌else◌, List, Option, Some, None}
+use Rattle.std.specs.Prelude.{ℕ, Bool, ◌||◌, if◌then◌else◌, List, Option, Some, None}
 use Rattle.names_core.specs.Ids.{Numbered}
 use Rattle.names_core.specs.declared.state.TaskState.{TaskState}
 use Rattle.names_core.specs.declared.state.TaskState.TheVariants.{Lost}
+use Rattle.mails.specs.declared.refusal.MasterRefusal.{MasterRefusal}
+use Rattle.mails.specs.declared.refusal.MasterRefusal.TheVariants.{LimitExceeded}
 use Rattle.cluster_model.specs.Sides.{SendAck, SendKill}
 use Rattle.cluster_model.specs.Events.{StreamEvent, update_event}
-use Rattle.cluster_model.specs.Masters.{AtSide, Doing, Master, Placed, nothing, on_stream, saying, side_of}
+use Rattle.cluster_model.specs.Masters.{AtSide, Doing, Master, Placed, may_have_numbers, nothing, on_stream, saying, side_of}
 use Rattle.cluster_model.specs.Calls.{commanding}
 pub use Rattle.master_calls.specs.declared.on_kill.HeldTask.{HeldTask}
 
@@ -29,6 +31,13 @@ kills m stream task agent None = saying m (sends_task stream task Lost agent)
 kills m stream task agent (Some held) =
     if held.ended then saying m (sends_task stream held.name held.state (Some held.agent))
     else commanding m (side_of m held.agent) (AtSide held.agent (SendKill held.key))
+
+-- why a limit refuses a KILL of a held task, if one does: it hasn't ended, and the session of its
+-- agent has no command number left
+abbrev pub kill_limit : Master → Option Placed → Option MasterRefusal
+kill_limit m None = None
+kill_limit m (Some p) =
+    if p.booked.ended || may_have_numbers 1 (side_of m p.agent) then None else Some LimitExceeded
 
 -- ACKNOWLEDGE of an update that is the one last received, or isn't
 abbrev pub acks : Master → List ℕ → Numbered → ℕ → Bool → Doing

@@ -1,13 +1,13 @@
 //! KILL and ACKNOWLEDGE.
 
-ghost use Rattle.std.specs.Prelude.{◌≡◌, IfOk, option_map};
+ghost use Rattle.std.specs.Prelude.{◌≡◌, ◌||◌, true, IfOk, IfSome, option_map};
 ghost use Rattle.mails.specs.declared.call.Call.TheVariants as calls;
 ghost use Rattle.cluster_model.specs.Sides.{SendAck, SendKill};
-ghost use Rattle.cluster_model.specs.Masters.{AtSide, held, side_of};
+ghost use Rattle.cluster_model.specs.Masters.{AtSide, held, may_have_numbers, side_of};
 ghost use Rattle.cluster_model.specs.Calls.{called, commanding};
 ghost use Rattle.master_state.specs.Works.{Gave, master_of};
 ghost use Rattle.offer_tables.specs.Found.{place};
-ghost use Rattle.master_calls.specs.Tasks.{held_task, kills};
+ghost use Rattle.master_calls.specs.Tasks.{held_task, kill_limit, kills};
 
 use mails::{Booked, Command, MasterRefusal};
 use master_state::{MasterFault, State};
@@ -57,19 +57,32 @@ pub(crate) fn held_of(
     }
 }
 
+/// Why a limit refuses a KILL of the framework's held task of this name, if one does: the session
+/// of its agent has no command number left.
+fn kill_limit(state: &State, framework: FrameworkId, name: &TaskName) -> Option<MasterRefusal>
+    ensures { result ≡ kill_limit (master_of state.now)
+        (held (master_of state.now) framework name.now) }
+{
+    let Some((agent, task)) = state.sides.held(framework, name) else {
+        return None;
+    };
+    if task.ended || state.sides.may_have_numbers(agent, 1) {
+        return None;
+    }
+    Some(MasterRefusal::LimitExceeded)
+}
+
 fn order_kill(
     state: &mut State,
     alloc: Global,
     agent: &AgentName,
     key: LaunchKey,
 ) -> Result<(), MasterFault>
+    requires { may_have_numbers 1 (side_of (master_of state.old) agent.now) ≡ true }
     ensures { Gave result state.old state.new
         (commanding (master_of state.old) (side_of (master_of state.old) agent.now)
         (AtSide agent.now (SendKill key))) }
 {
-    if !state.sides.may_have_numbers(agent, 1) {
-        return Err(MasterFault::Refused(MasterRefusal::LimitExceeded));
-    }
     match state.order(alloc, agent, Command::Kill(key), Command::Kill(key)) {
         Ok(()) => Ok(()),
         Err(_) => Err(MasterFault::OutOfMemory),
@@ -105,6 +118,8 @@ fn kill_held(
     agent: Option<AgentName>,
     held: Option<HeldTask>,
 ) -> Result<(), MasterFault>
+    requires { IfSome held (λ h. (h.ended
+        || may_have_numbers 1 (side_of (master_of state.old) h.agent)) ≡ true) }
     ensures { Gave result state.old state.new (kills (master_of state.old) stream task agent held) }
 {
     let Some(held) = held else {
@@ -141,6 +156,9 @@ pub fn kill(
         Ok(stream) => stream,
         Err(refusal) => return Err(MasterFault::Refused(refusal)),
     };
+    if let Some(refusal) = kill_limit(state, framework, &task) {
+        return Err(MasterFault::Refused(refusal));
+    }
     let held = match held_of(state, alloc, framework, &task) {
         Ok(held) => held,
         Err(_) => return Err(MasterFault::OutOfMemory),

@@ -32,14 +32,16 @@ outs_of m d =
     }
 
 -- A step of a master that is up was done, or it was refused and nothing changed.
--- Where memory was refused the master is down: it answers so for ever.
+-- Where memory was refused, which it is only in a step that isn't refused, the master is down: it
+-- answers so for ever.
 abbrev pub Answers : Result Outs MasterFault → Option Master → Option Master → (Master → Doing)
     → Type 0
 Answers (Ok outs) None after doing = ⊥
 Answers (Ok outs) (Some m) after doing =
     ((doing m).refusal ≡ None) × (outs ≡ outs_of m (doing m))
     × (after ≡ Some (after_doing m (doing m)))
-Answers (Err OutOfMemory) before after doing = after ≡ None
+Answers (Err OutOfMemory) None after doing = after ≡ None
+Answers (Err OutOfMemory) (Some m) after doing = ((doing m).refusal ≡ None) × (after ≡ None)
 Answers (Err (Refused refusal)) None after doing = ⊥
 Answers (Err (Refused refusal)) (Some m) after doing =
     ((doing m).refusal ≡ Some refusal) × (after ≡ Some m)

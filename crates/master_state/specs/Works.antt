@@ -62,11 +62,11 @@ done d w = record {
   closes = w.closes ++ d.closes;
 }
 
--- a step was done, or it was refused and nothing changed; where memory was refused nothing is
--- claimed
+-- a step was done, or it was refused and nothing changed; memory is refused only where the step
+-- isn't
 abbrev pub Gave : {T : Type 0} → Result T MasterFault → State → State → Doing → Type 0
 Gave (Ok x) before after d = (d.refusal ≡ None) × (work_of after ≡ done d (work_of before))
-Gave (Err OutOfMemory) before after d = Unit {0}
+Gave (Err OutOfMemory) before after d = d.refusal ≡ None
 Gave (Err (Refused refusal)) before after d = (d.refusal ≡ Some refusal) × (after ≡ before)
 
 -- the open stream on which a framework calls, or why it may not

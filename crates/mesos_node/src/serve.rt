@@ -74,6 +74,7 @@ fn serve_folder<
         connections: options.connections,
         idle_seconds: options.idle_seconds,
         workers: options.workers,
+        keep_serving: options.keep_serving,
     };
     let blank = Blank::new(PARTS);
     let memory = MemoryLimit {

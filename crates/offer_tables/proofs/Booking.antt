@@ -2,7 +2,7 @@
 use Rattle.std.proofs.Common.{◌≡◌, ℕ, zero, suc, ◌-◌, ◌≤◌, true, false, ◌||◌, cond, List, [], ◌∷◌, length, get_or, Option, None, Some, is_some, Ok, Err, refl, sym, ap, ◌∙◌, subst, arith, ⊎_elim, find}
 use Rattle.std.proofs.lemmas.Bool.{cases_Bool}
 use Rattle.std.specs.List.{list_any}
-use Rattle.quantity.specs.Rows.{covers, rest_of, AreRows}
+use Rattle.quantity.specs.Rows.{rest_of, AreRows}
 use Rattle.names_core.specs.Ids.{Numbered, same}
 use Rattle.mails.specs.declared.task.Offer.{Offer}
 use Rattle.mails.specs.declared.task.Booked.{Booked}
@@ -14,10 +14,10 @@ use Rattle.offer_rows.proofs.Taking.{place_from}
 use Rattle.offer_tables.specs.Found.{made, made_or, offer_of, offers_on, place, placed_or, task_of, tasks_on}
 use Rattle.offer_tables.specs.Accounts.{Account, is_offered_as, has_key, with_offer, with_task, fits, taken_by, unended_rows}
 use Rattle.offer_tables.specs.Books.{is_offered, is_booked, offered, offered_at, booked, booked_at, changed, changed_at, free_of, free_at}
-use Rattle.offer_tables.specs.Rows.{AreEmpty, IsPlaceOf, Rows, account, accounts}
+use Rattle.offer_tables.specs.Rows.{AreEmpty, IsPlaceOf, Rows, account, accounts, has_room_in}
 use Rattle.offer_tables.specs.declared.agents.AgentRow.{AgentRow}
 use Rattle.offer_tables.specs.declared.fault.BookFault.TheVariants.{Unknown, NoRoom, Twice}
-use Rattle.offer_tables.proofs.Amounts.{rest_alike, room_is}
+use Rattle.offer_tables.proofs.Amounts.{room_is}
 use Rattle.offer_tables.proofs.Changed.{agent_nowhere, agent_there, at_first_agent, row_at, settled, slot}
 
 -- ---- which records there are
@@ -87,10 +87,8 @@ module _ (name : List ℕ) (rs : List AgentRow) (offers : List (List Offer)) (ta
       ∙ ap (λ x. Ok x) (at_first_agent name f rs offers tasks p h is)
 
   module _ (p : ℕ) (is : IsPlaceOf name rs (Some p)) (r : AgentRow) (at : r ≡ get_or rs p r) where
-    pub free_there : free_of name (accounts rs offers tasks) ≡ Ok (rest_of r.total r.taken)
-    free_there =
-        ap free_at (agent_there name rs offers tasks p r h is at)
-        ∙ ap (λ rest. Ok rest) (sym (rest_alike r.total r.taken (taken_by (list_at p offers) (list_at p tasks)) (row_at rs offers tasks p r h is.0 at).sum))
+    pub free_there : free_of name (accounts rs offers tasks) ≡ Ok (rest_of r.total (taken_by (list_at p offers) (list_at p tasks)))
+    free_there = ap free_at (agent_there name rs offers tasks p r h is at)
 
     offered_when : (o : Offer) → offered name o (accounts rs offers tasks)
         ≡ cond (is_some (find_from (λ x. x.id) zero o.id offers)) (Err Twice)
@@ -103,14 +101,14 @@ module _ (name : List ℕ) (rs : List AgentRow) (offers : List (List Offer)) (ta
     pub offered_twice : (o : Offer) → is_some (find_from (λ x. x.id) zero o.id offers) ≡ true → offered name o (accounts rs offers tasks) ≡ Err Twice
     offered_twice o twice = offered_when o ∙ rw twice refl
 
-    pub offered_no_room : (o : Offer) → AreRows r.total → is_some (find_from (λ x. x.id) zero o.id offers) ≡ false → covers (rest_of r.total r.taken) o.resources ≡ false
+    pub offered_no_room : (o : Offer) → AreRows r.total → is_some (find_from (λ x. x.id) zero o.id offers) ≡ false → has_room_in r.total r.free o.resources ≡ false
         → offered name o (accounts rs offers tasks) ≡ Err NoRoom
     offered_no_room o are once room =
         let no : fits (account r (list_at p offers) (list_at p tasks)) o.resources ≡ false =
         sym (room_is r (list_at p offers) (list_at p tasks) o.resources are (row_at rs offers tasks p r h is.0 at)) ∙ room in
         offered_when o ∙ rw (once, no) refl
 
-    pub offered_ok : (o : Offer) → AreRows r.total → is_some (find_from (λ x. x.id) zero o.id offers) ≡ false → covers (rest_of r.total r.taken) o.resources ≡ true
+    pub offered_ok : (o : Offer) → AreRows r.total → is_some (find_from (λ x. x.id) zero o.id offers) ≡ false → has_room_in r.total r.free o.resources ≡ true
         → offered name o (accounts rs offers tasks) ≡ Ok (at_place p (with_offer o) (accounts rs offers tasks))
     offered_ok o are once room =
         let yes : fits (account r (list_at p offers) (list_at p tasks)) o.resources ≡ true =
@@ -128,14 +126,14 @@ module _ (name : List ℕ) (rs : List AgentRow) (offers : List (List Offer)) (ta
     pub booked_twice : (b : Booked) → is_some (find_from (λ x. x.job.key) zero b.job.key tasks) ≡ true → booked name b (accounts rs offers tasks) ≡ Err Twice
     booked_twice b twice = booked_when b ∙ rw twice refl
 
-    pub booked_no_room : (b : Booked) → AreRows r.total → is_some (find_from (λ x. x.job.key) zero b.job.key tasks) ≡ false → covers (rest_of r.total r.taken) (unended_rows b) ≡ false
+    pub booked_no_room : (b : Booked) → AreRows r.total → is_some (find_from (λ x. x.job.key) zero b.job.key tasks) ≡ false → has_room_in r.total r.free (unended_rows b) ≡ false
         → booked name b (accounts rs offers tasks) ≡ Err NoRoom
     booked_no_room b are once room =
         let no : fits (account r (list_at p offers) (list_at p tasks)) (unended_rows b) ≡ false =
         sym (room_is r (list_at p offers) (list_at p tasks) (unended_rows b) are (row_at rs offers tasks p r h is.0 at)) ∙ room in
         booked_when b ∙ rw (once, no) refl
 
-    pub booked_ok : (b : Booked) → AreRows r.total → is_some (find_from (λ x. x.job.key) zero b.job.key tasks) ≡ false → covers (rest_of r.total r.taken) (unended_rows b) ≡ true
+    pub booked_ok : (b : Booked) → AreRows r.total → is_some (find_from (λ x. x.job.key) zero b.job.key tasks) ≡ false → has_room_in r.total r.free (unended_rows b) ≡ true
         → booked name b (accounts rs offers tasks) ≡ Ok (at_place p (with_task b) (accounts rs offers tasks))
     booked_ok b are once room =
         let yes : fits (account r (list_at p offers) (list_at p tasks)) (unended_rows b) ≡ true =

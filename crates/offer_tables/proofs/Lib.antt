@@ -6,6 +6,7 @@ pub mod Books
 pub mod Receiving
 pub mod Appending
 pub mod Holding
+pub mod Leaving
 pub mod Only
 pub mod Whereabouts
 pub mod Ridding

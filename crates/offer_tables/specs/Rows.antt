@@ -1,9 +1,10 @@
 -- What a book keeps of its agents, and the accounts that it stands for.
-use Rattle.std.specs.Prelude.{◌≡◌, ℕ, zero, suc, ◌-◌, ◌<◌, Bool, false, true, ◌&&◌, ◌⊎◌, List, [], ◌∷◌, ◌++◌, map, length, slice_index_or, Option, None, Some}
-use Rattle.std.specs.List.{IsDistinct, AllByRecursion}
+use Rattle.std.specs.Prelude.{◌≡◌, ℕ, zero, suc, ◌-◌, ◌<◌, nat_eq, nat_le, Bool, false, true, ◌&&◌, if◌then◌else◌, ◌⊎◌, List, [], ◌∷◌, ◌++◌, map, length, slice_index_or, Option, None, Some}
+use Rattle.std.specs.List.{IsDistinct, AllByRecursion, list_all}
+use Rattle.std.specs.Cmp.Lexicographic.{pointwise}
 use Rattle.std.specs.Prelude.{bytes_eq}
 use Rattle.quantity.specs.declared.rows.Row.{Row}
-use Rattle.quantity.specs.Rows.{amount, covers}
+use Rattle.quantity.specs.Rows.{amount, covers, IsPlus}
 use Rattle.mails.specs.declared.task.Offer.{Offer}
 use Rattle.mails.specs.declared.task.Booked.{Booked}
 use Rattle.offer_tables.specs.Accounts.{Account, taken_by}
@@ -20,10 +21,30 @@ accounts (r ∷ rows) [] tasks = []
 accounts (r ∷ rows) (os ∷ offers) [] = []
 accounts (r ∷ rows) (os ∷ offers) (bs ∷ tasks) = account r os bs ∷ accounts rows offers tasks
 
--- what is taken of an agent's total is the sum over its offers and its tasks that haven't ended,
--- the total covers it, and an agent that isn't in has none
+-- how much of the resource of a row is left beside what is taken
+abbrev pub left_in : List Row → Row → ℕ
+left_in taken r = r.amount - amount r.name taken
+
+-- what is left of each resource of a total, in the order of its rows
+abbrev pub amounts_left : List Row → List Row → List ℕ
+amounts_left total taken = map (left_in taken) total
+
+-- what is left of a name, by the amounts left of a total's rows; nothing where no row has the name
+abbrev pub left_at : List ℕ → List Row → List ℕ → ℕ
+left_at name [] left = 0
+left_at name (r ∷ total) [] = 0
+left_at name (r ∷ total) (n ∷ left) =
+    if pointwise nat_eq r.name name then n else left_at name total left
+
+-- as much is left of each name as more has of it
+abbrev pub has_room_in : List Row → List ℕ → List Row → Bool
+has_room_in total left more =
+    list_all (λ r. nat_le (amount r.name more) (left_at r.name total left)) more
+
+-- the free part of an agent is what its offers and its tasks that haven't ended leave of its total,
+-- which covers them, and an agent that isn't in has none
 pub record IsRow (r : AgentRow) (os : List Offer) (bs : List Booked) : Type 0 where
-  pub sum : (name : List ℕ) → amount name r.taken ≡ amount name (taken_by os bs)
+  pub free : r.free ≡ amounts_left r.total (taken_by os bs)
   pub covered : covers r.total (taken_by os bs) ≡ true
   pub out : r.is_in ≡ false → (os ≡ []) × (bs ≡ [])
 
@@ -72,26 +93,37 @@ ChangedAt R p (r ∷ old) [] = ⊥
 ChangedAt R zero (r ∷ old) (s ∷ new) = R r s × (old ≡ new)
 ChangedAt R (suc p) (r ∷ old) (s ∷ new) = (r ≡ s) × ChangedAt R p old new
 
--- this is taken of the agent's total
-abbrev pub IsTaken : List Row → AgentRow → AgentRow → Type 0
-IsTaken taken r s = s ≡ record r { taken = taken }
+-- the free part of the agent is this
+abbrev pub IsLeft : List ℕ → AgentRow → AgentRow → Type 0
+IsLeft free r s = s ≡ record r { free = free }
+
+-- what is left of a total where these rows are taken of it too
+abbrev pub TakesMore : List Row → List Row → List ℕ → List ℕ → Type 0
+TakesMore total more old new =
+    (taken : List Row) → old ≡ amounts_left total taken → new ≡ amounts_left total (more ++ taken)
+
+-- what was left of a total that these rows and others were taken of is now what the others leave
+abbrev pub GivesBack : List Row → List Row → List ℕ → List ℕ → Type 0
+GivesBack total more old new =
+    (taken others : List Row) → old ≡ amounts_left total taken → covers total taken ≡ true
+    → IsPlus taken others more → new ≡ amounts_left total others
 
 -- these rows are given back
 pub record IsGivenBack (more : List Row) (r s : AgentRow) : Type 0 where
   pub same_name : s.name ≡ r.name
   pub same_in : s.is_in ≡ r.is_in
   pub same_total : s.total ≡ r.total
-  pub less : (name : List ℕ) → amount name s.taken ≡ amount name r.taken - amount name more
+  pub back : GivesBack r.total more r.free s.free
 
--- the agent is in or not, owns this, and nothing of it is taken
+-- the agent is in or not, owns this, and all of it is free
 abbrev pub IsEmptied : Bool → List Row → AgentRow → AgentRow → Type 0
 IsEmptied is_in total r s =
-    s ≡ record { name = r.name; is_in = is_in; total = total; taken = [] }
+    s ≡ record { name = r.name; is_in = is_in; total = total; free = amounts_left total [] }
 
 -- the same lists, or one more, which is empty
 abbrev pub SameOrMore : {X : Type 0} → List (List X) → List (List X) → Type 0
 SameOrMore old new = (new ≡ old) ⊎ (new ≡ old ++ [] ∷ [])
 
--- what the agent owns is this, and nothing of it is taken
+-- what the agent owns is this, and all of it is free
 abbrev pub IsReset : List Row → AgentRow → AgentRow → Type 0
-IsReset total r s = s ≡ record r { total = total; taken = [] }
+IsReset total r s = s ≡ record r { total = total; free = amounts_left total [] }

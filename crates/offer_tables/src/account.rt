@@ -6,12 +6,12 @@ ghost use Rattle.offer_tables.specs.Accounts.{free};
 ghost use Rattle.offer_tables.specs.Found.{offers_on, tasks_on};
 ghost use Rattle.offer_tables.specs.Held.{all_placed};
 
-use crate::agents::{self, AgentRow};
+use crate::agents::AgentRow;
 use crate::book::OfferBook;
 use names_core::AgentName;
 use offer_rows::{BookedTasks, Offers, OffersAt, TasksAt};
 use quantity::Resources;
-use std::alloc::AllocError;
+use std::alloc::{AllocError, Global};
 use std::marker::Model;
 
 /// What a book has of one agent.
@@ -21,6 +21,7 @@ pub struct AccountAt<'a> {
     offers: &'a Offers,
     tasks: &'a BookedTasks,
     place: usize,
+    alloc: Global,
 }
 
 impl<'a> Model for AccountAt<'a> {
@@ -78,7 +79,7 @@ impl<'a> AccountAt<'a> {
     pub fn free(&self) -> Result<Resources, AllocError>
         ensures { IfOk result (λ rest. rest ≡ free self.now) }
     {
-        agents::left_of(&self.row.total, &self.row.taken)
+        self.row.free.to_resources(self.alloc, &self.row.total)
     }
 }
 
@@ -95,6 +96,7 @@ impl OfferBook {
             offers: &self.offers,
             tasks: &self.tasks,
             place,
+            alloc: *self.names.allocator(),
         })
     }
 

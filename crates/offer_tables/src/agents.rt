@@ -1,75 +1,27 @@
 //! What a book keeps of each agent.
 
-ghost use Rattle.std.specs.Prelude.{◌≡◌, ◌+◌, ◌-◌, ◌≤◌, ◌<◌, [], true, false, List, ℕ, if◌then◌else◌, nat_le, map, length, bytes_eq, IfOk};
+ghost use Rattle.std.specs.Prelude.{◌≡◌, ◌<◌, [], true, false, if◌then◌else◌, map, length, bytes_eq};
 ghost use Rattle.std.specs.List.{IsDistinct};
-ghost use Rattle.quantity.specs.Rows.{amount, covers, rest_of, AreRows};
+ghost use Rattle.quantity.specs.Rows.{AreRows};
 ghost use Rattle.offer_tables.specs.Accounts.{unended_rows};
-ghost use Rattle.offer_tables.specs.Rows.{ChangedAt, IsEmptied, IsFirst, IsGivenBack, IsPlaceOf, IsReset, IsTaken, is_row_named};
+ghost use Rattle.offer_tables.specs.Rows.{ChangedAt, IsEmptied, IsFirst, IsGivenBack, IsLeft, IsPlaceOf, IsReset, TakesMore, has_room_in, is_row_named};
 
+use crate::free_part::FreePart;
 use indexmap::IndexSet;
 use mails::Booked;
 use names_core::AgentName;
-use plain_data::Plain;
-use quantity::{Resources, Row};
-use std::alloc::{AllocError, Global};
+use quantity::Resources;
+use std::alloc::Global;
 
-/// An agent, what it owns, and what of it is taken.
+/// An agent, what it owns, and what of it is free.
 #[derive(Drop)]
 pub(crate) struct AgentRow {
     pub name: AgentName,
     /// The agent has entered, and wasn't dropped since.
     pub is_in: bool,
     pub total: Resources,
-    /// What its offers have, and its booked tasks use that haven't ended: from change to change.
-    pub taken: Resources,
-}
-
-/// Whether what is left of the resource of a row is as much as more has of it.
-fn has_room_of(total: &Resources, taken: &Resources, more: &Resources, row: &Row) -> bool
-    ensures { result ≡ nat_le (amount row.now.name more.now)
-        (amount row.now.name (rest_of total.now taken.now)) }
-{
-    let _ordered = total.rows();
-    let name = row.name.as_str();
-    more.get(name) <= total.get(name).saturating_sub(taken.get(name))
-}
-
-/// Whether what is left of a total has room for more. It takes no memory.
-pub(crate) fn has_room(total: &Resources, taken: &Resources, more: &Resources) -> bool
-    ensures room { result ≡ covers (rest_of total.now taken.now) more.now }
-    ensures ordered { AreRows total.now }
-{
-    let _ordered = total.rows();
-    more.rows()
-        .iter()
-        .all(|row| has_room_of(total, taken, more, row))
-}
-
-/// What is left of a total.
-pub(crate) fn left_of(total: &Resources, taken: &Resources) -> Result<Resources, AllocError>
-    ensures rest { IfOk result (λ rest. rest ≡ rest_of total.now taken.now) }
-    ensures less { IfOk result (λ rest. (name : List ℕ)
-        → amount name rest ≡ amount name total.now - amount name taken.now) }
-{
-    let mut rest = total.copy()?;
-    rest.reduce_by(taken);
-    Ok(rest)
-}
-
-/// What is taken of a total once more is taken, where there is room for it.
-pub(crate) fn with_more(
-    total: &Resources,
-    taken: &Resources,
-    more: &Resources,
-) -> Result<Resources, AllocError>
-    requires { (name : List ℕ)
-        → amount name taken.now + amount name more.now ≤ amount name total.now }
-    ensures { IfOk result (λ both. (name : List ℕ)
-        → amount name both ≡ amount name taken.now + amount name more.now) }
-{
-    let mut rest = left_of(total, taken)?;
-    rest.reduce_by(more);
-    left_of(total, &rest)
+    /// What its offers and its booked tasks that haven't ended leave of it: from change to change.
+    pub free: FreePart,
 }
 
 /// Where the row of a name is, if there is one.
@@ -104,11 +56,11 @@ pub(crate) fn place_of(
     }
 }
 
-pub(crate) fn set_taken(agents: &mut Vec<AgentRow>, place: usize, taken: Resources)
+pub(crate) fn set_free(agents: &mut Vec<AgentRow>, place: usize, free: FreePart)
     requires { place < length agents.old.items }
-    ensures { ChangedAt (IsTaken taken) place agents.old.items agents.new.items }
+    ensures { ChangedAt (IsLeft free) place agents.old.items agents.new.items }
 {
-    agents[place].taken = taken;
+    agents[place].free = free;
 }
 
 /// What an offer has, or a task that hasn't ended uses, is given back.
@@ -116,7 +68,8 @@ pub(crate) fn give_back(agents: &mut Vec<AgentRow>, place: usize, more: &Resourc
     requires { place < length agents.old.items }
     ensures { ChangedAt (IsGivenBack more.now) place agents.old.items agents.new.items }
 {
-    agents[place].taken.reduce_by(more);
+    let row = &mut agents[place];
+    row.free = row.free.with_back(&row.total, more);
 }
 
 /// What a task uses is given back, if it hasn't ended.
@@ -138,53 +91,50 @@ pub(crate) fn vacate(agents: &mut Vec<AgentRow>, alloc: Global, place: usize)
     let row = &mut agents[place];
     row.is_in = false;
     row.total = Resources::new(alloc);
-    row.taken = Resources::new(alloc);
+    row.free = FreePart::whole(&row.total);
 }
 
 /// An agent is in again, and owns this.
-pub(crate) fn occupy(agents: &mut Vec<AgentRow>, alloc: Global, place: usize, total: Resources)
+pub(crate) fn occupy(agents: &mut Vec<AgentRow>, place: usize, total: Resources)
     requires { place < length agents.old.items }
     ensures { ChangedAt (IsEmptied true total) place agents.old.items agents.new.items }
 {
     let row = &mut agents[place];
     row.is_in = true;
+    row.free = FreePart::whole(&total);
     row.total = total;
-    row.taken = Resources::new(alloc);
 }
 
-/// An agent owns this, and nothing of it is taken.
-pub(crate) fn reset(agents: &mut Vec<AgentRow>, alloc: Global, place: usize, total: Resources)
+/// An agent owns this, and all of it is free.
+pub(crate) fn reset(agents: &mut Vec<AgentRow>, place: usize, total: Resources)
     requires { place < length agents.old.items }
     ensures { ChangedAt (IsReset total) place agents.old.items agents.new.items }
 {
     let row = &mut agents[place];
+    row.free = FreePart::whole(&total);
     row.total = total;
-    row.taken = Resources::new(alloc);
 }
 
-/// Whether what is left of a total has room for what a task uses, if it hasn't ended.
+/// Whether there is room for what a task uses, if it hasn't ended.
 pub(crate) fn has_room_for(row: &AgentRow, task: &Booked) -> bool
-    ensures room { result ≡ covers (rest_of row.now.total row.now.taken) (unended_rows task.now) }
+    ensures room { result ≡ has_room_in row.now.total row.now.free (unended_rows task.now) }
     ensures ordered { AreRows row.now.total }
 {
     let _ordered = row.total.rows();
     if task.ended {
         return true;
     }
-    has_room(&row.total, &row.taken, &task.job.resources)
+    row.free.has_room(&row.total, &task.job.resources)
 }
 
-/// What is taken of a total once a task is booked, where there is room for it.
-pub(crate) fn with_task(row: &AgentRow, task: &Booked) -> Result<Resources, AllocError>
-    requires { (name : List ℕ) → amount name row.now.taken + amount name (unended_rows task.now)
-        ≤ amount name row.now.total }
-    ensures { IfOk result (λ both. (name : List ℕ) → amount name both
-        ≡ amount name row.now.taken + amount name (unended_rows task.now)) }
+/// What is free once a task is booked.
+pub(crate) fn with_task(row: &AgentRow, task: &Booked) -> FreePart
+    ensures { TakesMore row.now.total (unended_rows task.now) row.now.free result }
 {
     if task.ended {
-        return row.taken.copy();
+        return row.free.copied();
     }
-    with_more(&row.total, &row.taken, &task.job.resources)
+    row.free.less(&row.total, &task.job.resources)
 }
 
 /// What a task uses is given back where it ends, if it hadn't ended.

@@ -77,7 +77,7 @@ impl OfferBook {
         if self.agents[place].is_in {
             return Err(BookFault::Twice);
         }
-        agents::occupy(&mut self.agents, alloc, place, total);
+        agents::occupy(&mut self.agents, place, total);
         Ok(())
     }
 
@@ -91,7 +91,7 @@ impl OfferBook {
             return Err(BookFault::Unknown);
         };
         let row = &self.agents[place];
-        Ok(agents::left_of(&row.total, &row.taken)?)
+        Ok(row.free.to_resources(*self.names.allocator(), &row.total)?)
     }
 
     /// Offers resources of an agent. Checked in this order: `B1 Unknown` where no agent of this
@@ -110,12 +110,12 @@ impl OfferBook {
             return Err(BookFault::Twice);
         }
         let row = &self.agents[place];
-        if !agents::has_room(&row.total, &row.taken, &offer.resources) {
+        if !row.free.has_room(&row.total, &offer.resources) {
             return Err(BookFault::NoRoom);
         }
-        let taken = agents::with_more(&row.total, &row.taken, &offer.resources)?;
+        let free = row.free.less(&row.total, &offer.resources);
         self.offers.push(place, offer)?;
-        agents::set_taken(&mut self.agents, place, taken);
+        agents::set_free(&mut self.agents, place, free);
         Ok(())
     }
 
@@ -152,9 +152,9 @@ impl OfferBook {
         if !agents::has_room_for(row, &task) {
             return Err(BookFault::NoRoom);
         }
-        let taken = agents::with_task(row, &task)?;
+        let free = agents::with_task(row, &task);
         self.tasks.push(alloc, place, task)?;
-        agents::set_taken(&mut self.agents, place, taken);
+        agents::set_free(&mut self.agents, place, free);
         Ok(())
     }
 
@@ -218,12 +218,7 @@ impl OfferBook {
 
     /// An agent's session opens or ends: its offers and booked tasks are removed, and the agent
     /// owns this total. `B1 Unknown` where no agent of this name is in. It takes no memory.
-    pub fn empty_agent(
-        &mut self,
-        alloc: Global,
-        name: &AgentName,
-        total: Resources,
-    ) -> Result<(), BookFault>
+    pub fn empty_agent(&mut self, name: &AgentName, total: Resources) -> Result<(), BookFault>
         ensures ok { OnOk result (emptied_on name.now total self.old ≡ Ok self.new) }
         ensures refused { IfErr result (λ fault. IsDue (emptied_on name.now total self.old) fault) }
         ensures err { OnErr result (self.new ≡ self.old) }
@@ -231,7 +226,7 @@ impl OfferBook {
         let Some(place) = agents::place_of(&self.names, &self.agents, name) else {
             return Err(BookFault::Unknown);
         };
-        agents::reset(&mut self.agents, alloc, place, total);
+        agents::reset(&mut self.agents, place, total);
         self.offers.clear(place);
         self.tasks.clear(place);
         Ok(())

@@ -5,6 +5,7 @@ ghost use Rattle.offer_tables.specs.Accounts.{new_account};
 ghost use Rattle.offer_tables.specs.Rows.{IsBook, IsFirst, SameOrMore, accounts, is_row_named};
 
 use crate::agents::AgentRow;
+use crate::free_part::FreePart;
 use indexmap::IndexSet;
 use names_core::AgentName;
 use offer_rows::{BookedTasks, Offers};
@@ -75,8 +76,8 @@ pub(crate) fn append(
     let row = AgentRow {
         name: name.copy()?,
         is_in: true,
+        free: FreePart::whole(&total),
         total,
-        taken: Resources::new(alloc),
     };
     agents.reserve(1)?;
     add_places(offers, tasks, alloc, place)?;

@@ -155,7 +155,7 @@ impl OfferBook {
         ensures err { OnErr result ((self.new ≡ self.old)
             ⊎ ((n : ℕ) × (reopened_on name.now (take n tasks) total self.old ≡ Ok self.new))) }
     {
-        match self.empty_agent(alloc, name, total) {
+        match self.empty_agent(name, total) {
             Ok(()) => {}
             Err(fault) => return Err(fault),
         }

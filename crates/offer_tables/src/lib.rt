@@ -1,5 +1,5 @@
 //! The master's book in tables: agents' totals, current offers and booked tasks (Mesos paper,
-//! section 3.1), each found by its id, and what of each total is taken.
+//! section 3.1), each found by its id, and what of each total is free.
 #![tactic(auto)]
 
 mod account;
@@ -7,6 +7,7 @@ mod agents;
 mod book;
 mod entering;
 mod fault;
+mod free_part;
 mod from_agents;
 #[cfg(test)]
 mod generated;

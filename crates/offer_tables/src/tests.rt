@@ -72,7 +72,7 @@ fn free_cpus(book: &OfferBook, name: &AgentName) -> u64 {
 /// Whether what is there once the agent's session ends is what was asked for, and nothing else.
 fn empties(book: &mut OfferBook, alloc: Global, name: &AgentName) -> Option<bool> {
     let total = cpus(alloc, 7)?;
-    let answer = book.empty_agent(alloc, name, total);
+    let answer = book.empty_agent(name, total);
     let none = book.offers_on(0).is_empty() && book.tasks_on(0).is_empty();
     Some(answer == Ok(()) && none && free_cpus(book, name) == 7)
 }

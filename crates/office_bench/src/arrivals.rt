@@ -9,9 +9,10 @@ use crate::bench::SeatBench;
 use crate::ending::Ending;
 use crate::fault::bench_fault;
 use crate::inlet::TcpInlet;
+use crate::limits::ConnectionLimits;
 use crate::outlet::TcpOutlet;
-use crate::places::StreamPlaces;
 use crate::seating::Seating;
+use crate::timing::have_passed;
 use desk_lock::{Office, Pass, Waited};
 use http_workers::{Arrivals, HttpFault};
 use running_clusters::{Awaited, ClusterFault, KeptEntry, Running};
@@ -19,11 +20,14 @@ use std::alloc::Global;
 use std::marker::Model;
 use std::net::TcpListener;
 use std::sync::{Wait, ledger};
-use std::time::{Clock, Duration};
+use std::time::{Clock, Duration, Instant};
 use std::{io, thread};
 
-/// How long is waited after a connection that failed, in milliseconds.
+/// How long is waited after a connection that failed or couldn't be served, in milliseconds.
 const PAUSE: u64 = 50;
+
+/// How long it isn't told again that one couldn't be served, in seconds.
+const SILENCE: u64 = 60;
 
 /// After so many connections in a row that failed it is told again, which is about a minute.
 const TELLS_AGAIN: u64 = 1_200;
@@ -32,29 +36,16 @@ const TELLS_AGAIN: u64 = 1_200;
 fn accept<'a, R: Clock>(
     rt: &'a R,
     listener: &TcpListener,
-    idle_seconds: u64,
+    limits: ConnectionLimits<'a>,
     ending: &'a Ending,
-) -> io::Result<(TcpInlet<'a>, TcpOutlet<'a, R>)>
+) -> io::Result<(TcpInlet<'a, R>, TcpOutlet<'a, R>)>
     ensures { IfOk result (λ ends. (ends.0.faults ≡ 0) × (ends.1.faults ≡ 0)) }
 {
     let (stream, _) = listener.accept()?;
     stream.set_nodelay(true)?;
     let other = stream.try_clone()?;
-    let inlet = TcpInlet::new(stream, idle_seconds, ending)?;
+    let inlet = TcpInlet::new(rt, stream, limits, ending)?;
     Ok((inlet, TcpOutlet::new(rt, other)?))
-}
-
-/// How many connections are taken, how long one may wait for its client, and how many streams may be
-/// open.
-#[derive(Clone, Copy, Drop)]
-pub struct ConnectionLimits<'a> {
-    /// So many connections are taken at most; with 0 there is no limit.
-    pub connections: u64,
-    /// A connection from which no byte came for so many seconds is at the end of its input; with 0
-    /// it waits for ever.
-    pub idle_seconds: u64,
-    /// The places of streams, for these connections alone.
-    pub streams: &'a StreamPlaces,
 }
 
 /// The connections of a listener, each with a seat of an office over a cluster, which is opened for
@@ -77,6 +68,8 @@ pub struct TcpArrivals<'a, D: Running, L: ledger::Ledger, R: Wait + Clock + Epri
     taken: u64,
     /// How many connections failed since the last that was taken.
     failures: u64,
+    /// When it was told last that memory or a thread was refused for one.
+    told: Option<Instant>,
 }
 
 impl<'a, D: Running, L: ledger::Ledger, R: Wait + Clock + Eprint> Model
@@ -143,6 +136,7 @@ impl<'a, D: Running, L: ledger::Ledger, R: Wait + Clock + Eprint> TcpArrivals<'a
             most: most_of(limits.connections),
             taken: 0,
             failures: 0,
+            told: None,
         }
     }
 
@@ -188,19 +182,14 @@ impl<'a, D: Running, L: ledger::Ledger, R: Wait + Clock + Eprint> TcpArrivals<'a
 
     /// Waits for the next connection. Where it fails there is none; since the next would fail at
     /// once where the system lacks descriptors or memory, it waits for 50 milliseconds then.
-    fn take(&mut self) -> Option<(TcpInlet<'a>, TcpOutlet<'a, R>)>
+    fn take(&mut self) -> Option<(TcpInlet<'a, R>, TcpOutlet<'a, R>)>
         requires { self.old.taken < self.old.most }
         ensures countable { IfSome result
             (λ ends. (ends.0.faults ≡ 0) × (ends.1.faults ≡ 0)) }
         ensures taken { OnSome result (self.new ≡ with_taken self.old) }
         ensures failed { IfNone result (self.new ≡ with_failure self.old) }
     {
-        match accept(
-            self.rt,
-            self.listener,
-            self.limits.idle_seconds,
-            self.ending,
-        ) {
+        match accept(self.rt, self.listener, self.limits, self.ending) {
             Ok(ends) => {
                 self.failures = 0;
                 self.taken += 1;
@@ -212,6 +201,16 @@ impl<'a, D: Running, L: ledger::Ledger, R: Wait + Clock + Eprint> TcpArrivals<'a
                 thread::sleep(self.rt, Duration::from_millis(PAUSE));
                 None
             }
+        }
+    }
+
+    /// Tells that a connection couldn't be served, unless that was told within a minute.
+    fn tell_refusal(&mut self, fault: HttpFault)
+        ensures { self.new ≡ self.old }
+    {
+        if self.told.is_none() || have_passed(self.rt, self.told, SILENCE) {
+            let _ = eprintln!(self.rt; "{fault}: a connection isn't served");
+            self.told = Instant::now(self.rt).ok();
         }
     }
 
@@ -235,7 +234,7 @@ impl<
     L: ledger::Ledger + Send + Sync,
     R: Wait + Clock + Eprint + Sync,
 > Arrivals for TcpArrivals<'a, D, L, R> {
-    type In = TcpInlet<'a>;
+    type In = TcpInlet<'a, R>;
 
     type Out = TcpOutlet<'a, R>;
 
@@ -247,7 +246,7 @@ impl<
 
     ghost ended = { HasEnded D.history D.sound };
 
-    fn next(&mut self) -> Option<(TcpInlet<'a>, TcpOutlet<'a, R>, Seating<'a, D, L, R>)> {
+    fn next(&mut self) -> Option<(TcpInlet<'a, R>, TcpOutlet<'a, R>, Seating<'a, D, L, R>)> {
         let rt = self.rt;
         for _ in rt.forever() {
             if self.has_ended() {
@@ -259,6 +258,17 @@ impl<
         }
         unreachable!()
     }
+    /// Where the server is to keep serving, and isn't at its end, a fault is told on standard error,
+    /// once a minute; and since memory and threads are lacking, it waits for 50 milliseconds then.
+    fn bears(&mut self, fault: HttpFault) -> bool {
+        if !self.limits.keep_serving || self.is_office_finished() {
+            return false;
+        }
+        self.tell_refusal(fault);
+        thread::sleep(self.rt, Duration::from_millis(PAUSE));
+        true
+    }
+
     /// Prints the fault on standard error, and ends the streams, and the connections that wait for
     /// their clients.
     fn give_up(&mut self, fault: HttpFault) {

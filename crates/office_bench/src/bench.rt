@@ -14,7 +14,7 @@ ghost use Rattle.desk_lock.specs.Answering.{Answers};
 ghost use Rattle.desk_lock.specs.Waits.{StreamEnds};
 
 use crate::fault::bench_fault;
-use crate::places::StreamPlaces;
+use crate::places::{Place, Places};
 use crate::reading::{answer_of, is_subscribe, taken_event};
 use desk_lock::{Answered, Office, Pass};
 use http_door::{Answer, Bench, BenchFault};
@@ -35,9 +35,9 @@ pub struct SeatBench<'a, D: Running, L: ledger::Ledger, R: Wait> {
     alloc: Global,
     office: &'a Office<D, L>,
     pass: Pass<KeptEntry, L>,
-    places: &'a StreamPlaces,
-    /// Whether it holds a place.
-    has_place: bool,
+    places: &'a Places,
+    /// The place that it holds.
+    place: Option<Place<'a>>,
 }
 
 impl<'a, D: Running, L: ledger::Ledger, R: Wait> Model for SeatBench<'a, D, L, R> {
@@ -56,7 +56,7 @@ impl<'a, D: Running, L: ledger::Ledger, R: Wait> SeatBench<'a, D, L, R> {
         alloc: Global,
         office: &'a Office<D, L>,
         pass: Pass<KeptEntry, L>,
-        places: &'a StreamPlaces,
+        places: &'a Places,
     ) -> SeatBench<'a, D, L, R>
         ensures { result ≡ pass }
     {
@@ -66,7 +66,7 @@ impl<'a, D: Running, L: ledger::Ledger, R: Wait> SeatBench<'a, D, L, R> {
             office,
             pass,
             places,
-            has_place: false,
+            place: None,
         }
     }
 
@@ -81,20 +81,17 @@ impl<'a, D: Running, L: ledger::Ledger, R: Wait> SeatBench<'a, D, L, R> {
     fn take_place(&mut self) -> bool
         ensures { self.new ≡ self.old }
     {
-        if !self.has_place {
-            self.has_place = self.places.take();
+        if self.place.is_none() {
+            self.place = self.places.take();
         }
-        self.has_place
+        self.place.is_some()
     }
 
     /// Gives the place of its stream back, where it holds one.
     fn leave_place(&mut self)
         ensures { self.new ≡ self.old }
     {
-        if self.has_place {
-            self.has_place = false;
-            self.places.give_back();
-        }
+        self.place = None;
     }
 
     /// Has the office take a step.

@@ -2,6 +2,7 @@
 
 ghost use Rattle.std.specs.Prelude.{◌≡◌, ◌<◌, ◌≤◌, IfOk, IfSome, length, ⊤};
 
+use crate::timing::have_passed;
 use http_door::Outlet;
 use std::io;
 use std::io::{ErrorKind, Write};
@@ -11,7 +12,8 @@ use std::time::{Clock, Duration, Instant};
 /// How long a write of a socket waits before it is seen whether its text is late, in seconds.
 const SLICE: u64 = 1;
 
-/// A text that a client is sent, as a chunk of a stream, takes so many seconds in all at most.
+/// A text that a client is sent, a response or a chunk of a stream, takes so many seconds in all at
+/// most.
 const TEXT_SECONDS: u64 = 30;
 
 /// What a client is sent over TCP. No contract can say which bytes a socket takes:
@@ -21,9 +23,7 @@ const TEXT_SECONDS: u64 = 30;
 pub struct TcpOutlet<'a, R: Clock> {
     rt: &'a R,
     stream: TcpStream,
-    /// How many bytes are left of the text that was written last.
-    left: usize,
-    /// When that text was begun.
+    /// When the text was begun that is written.
     begun: Option<Instant>,
     faults: u64,
 }
@@ -36,21 +36,9 @@ impl<'a, R: Clock> TcpOutlet<'a, R> {
         Ok(TcpOutlet {
             rt,
             stream,
-            left: 0,
             begun: None,
             faults: 0,
         })
-    }
-}
-
-/// Whether a text was begun too long ago.
-fn is_late<R: Clock>(rt: &R, begun: Option<Instant>) -> bool {
-    match begun {
-        Some(begun) => match begun.elapsed(rt) {
-            Ok(elapsed) => elapsed.as_secs() >= TEXT_SECONDS,
-            Err(_) => false,
-        },
-        None => false,
     }
 }
 
@@ -70,7 +58,7 @@ fn write_in_time<R: Clock>(
     ensures { IfSome result (λ n. (0 < n) × (n ≤ length piece.now)) }
 {
     for _ in 0..u64::MAX {
-        if is_late(rt, begun) {
+        if have_passed(rt, begun, TEXT_SECONDS) {
             return None;
         }
         match stream.write(piece) {
@@ -89,20 +77,17 @@ impl<'a, R: Clock> Outlet for TcpOutlet<'a, R> {
     ghost faults = { λ outlet. outlet.faults };
 
     fn write(&mut self, piece: &[u8]) -> Option<usize> {
-        // A piece that isn't what is left of the last text begins one.
-        if piece.len() != self.left {
-            self.begun = Instant::now(self.rt).ok();
-        }
         match write_in_time(self.rt, &mut self.stream, piece, self.begun) {
-            Some(count) => {
-                self.left = piece.len() - count;
-                Some(count)
-            }
+            Some(count) => Some(count),
             None => {
                 self.faults += 1;
                 None
             }
         }
+    }
+
+    fn begin_text(&mut self) {
+        self.begun = Instant::now(self.rt).ok();
     }
 
     ghost writes_nothing = { λ _. tt };

@@ -1,35 +1,47 @@
-//! How many streams are open at once.
+//! How many streams are open, and how many large bodies are read, at once.
 
 use std::sync::atomic::{AtomicU64, Ordering};
 
-/// The places of streams that may be open at once. The connections of a server share them. Where
-/// several take the last one at the same moment, none of them may get it.
+/// So many places. The connections of a server share them. Where several take the last one at the
+/// same moment, none of them may get it.
 #[derive(Drop)]
-pub struct StreamPlaces {
+pub struct Places {
     most: u64,
     taken: AtomicU64,
 }
 
-impl StreamPlaces {
+impl Places {
     /// So many places, none of which is taken.
-    pub fn new(most: u64) -> StreamPlaces {
-        StreamPlaces {
+    pub fn new(most: u64) -> Places {
+        Places {
             most,
             taken: AtomicU64::new(0),
         }
     }
 
-    /// Takes a place, and returns whether one was left.
-    pub(crate) fn take(&self) -> bool {
+    /// Takes a place, if one is left. It is given back where it is dropped.
+    pub(crate) fn take(&self) -> Option<Place<'_>> {
         if self.taken.fetch_add(1, Ordering::SeqCst) < self.most {
-            return true;
+            return Some(Place { places: self });
         }
         self.give_back();
-        false
+        None
     }
 
     /// Gives a place back that was taken.
-    pub(crate) fn give_back(&self) {
+    fn give_back(&self) {
         self.taken.fetch_sub(1, Ordering::SeqCst);
+    }
+}
+
+/// A place that is taken. It is given back where this is dropped.
+pub(crate) struct Place<'a> {
+    places: &'a Places,
+}
+
+impl Drop for Place<'_> {
+    fn drop(self) {
+        self.places.give_back();
+        let Place { places: _ } = self;
     }
 }

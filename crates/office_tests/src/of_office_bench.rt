@@ -9,7 +9,7 @@ use crate::served::{Closed, refuses_unopened, served};
 use desk_lock::{Desk, Office};
 use http_door::{Bench, BenchFault, NoGate, Sink, Source, serve_conn};
 use names_core::Run;
-use office_bench::{SeatBench, Seating, StreamPlaces};
+use office_bench::{Places, SeatBench, Seating};
 use recorded_clusters::RecordedCluster;
 use std::alloc::Global;
 use std::marker::Brand;
@@ -122,7 +122,7 @@ fn refuses_full<L: ledger::Ledger, R: Wait>(rt: &R, alloc: Global, blank: Blank)
     let Ok(pass) = office.open_seat(rt, alloc) else {
         return false;
     };
-    let streams = StreamPlaces::new(1);
+    let streams = Places::new(1);
     let mut bench = SeatBench::new(rt, alloc, &office, pass, &streams);
     let refuses = answers(alloc, &mut bench, HISTORY_FULL);
     drop(bench);

@@ -11,7 +11,7 @@ use http_door::Bench;
 use http_workers::serve_all;
 use master_core::ConfiguredAgents;
 use names_core::{AgentName, Run, StreamId};
-use office_bench::{ConnectionLimits, Ending, SeatBench, Seating, StreamPlaces, TcpArrivals};
+use office_bench::{ConnectionLimits, Ending, Places, SeatBench, Seating, TcpArrivals};
 use post_rules::Queues;
 use quantity::Resources;
 use recorded_clusters::RecordedCluster;
@@ -141,12 +141,14 @@ fn arrivals_at<'x, D: Running, L: ledger::Ledger, R: Wait + Clock + Eprint>(
     office: &'x Office<D, L>,
     listener: &'x TcpListener,
     ending: &'x Ending,
-    streams: &'x StreamPlaces,
+    streams: &'x Places,
 ) -> Option<TcpArrivals<'x, D, L, R>> {
     let limits = ConnectionLimits {
         connections: 0,
         idle_seconds: 0,
         streams,
+        bodies: streams,
+        keep_serving: false,
     };
     let pass = office.open_seat(rt, alloc).ok()?;
     Some(TcpArrivals::new(rt, alloc, office, pass, listener, limits, ending))
@@ -195,7 +197,7 @@ fn serve<
 ) -> Option<()> {
     let listener = TcpListener::bind(rt, "127.0.0.1:0").ok()?;
     let ending = Ending::new();
-    let streams = StreamPlaces::new(u64::from(WORKERS));
+    let streams = Places::new(u64::from(WORKERS));
     let client = client_of(rt, alloc, office, gate, &listener)?;
     let arrivals = arrivals_at(rt, alloc, office, &listener, &ending, &streams)?;
     join(rt, alloc, client, arrivals, gate, script, left);
@@ -273,7 +275,7 @@ fn is_refused<D: Running, L: ledger::Ledger, R: Wait>(
     let Ok(pass) = office.open_seat(rt, alloc) else {
         return false;
     };
-    let streams = StreamPlaces::new(1);
+    let streams = Places::new(1);
     let mut bench = SeatBench::new(rt, alloc, office, pass, &streams);
     let told = bench.next_events(StreamId::new(1, 9));
     told.is_err() && bench.into_pass().receipts().is_empty()

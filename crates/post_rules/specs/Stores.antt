@@ -34,10 +34,6 @@ given_sent s = record { direction = s.direction; previous = s.previous; given = 
 abbrev pub items_of : List Sent → List Item
 items_of sent = map item_of sent
 
--- how many numbers are left after so many; the last is 4,294,967,295
-abbrev pub numbers_left : ℕ → ℕ
-numbers_left count = 4294967295 - count
-
 -- of these, the last in the queue of a direction has this number,
 -- or there is none and the number is 0
 pub record IsLast (d : Direction) (sent : List Sent) (last : ℕ) : Type 0 where

@@ -3,7 +3,7 @@
 ghost use Rattle.std.specs.Prelude.{◌≡◌, ◌<◌, ◌≤◌, ◌-◌, ◌+◌, ◌++◌, ◌∷◌, [], ℕ, suc, Bool, true, false, length, not, ◌||◌, nat_eq, if◌then◌else◌, set, slice_get, take, vec_capacity, IfNone, IfSome, OnOk, Some};
 ghost use Rattle.std.specs.HashMap.{spare};
 ghost use Rattle.post_rules.specs.Queueing.{IsFirstWaiting, direction_in, hands_out, is_next, nothing_waits, same_queue, with_given, with_put};
-ghost use Rattle.post_rules.specs.Stores.{AreInOrder, first_in, first_with, given_sent, items_of, lasts_of, last_in, numbers_left, with_first, with_next};
+ghost use Rattle.post_rules.specs.Stores.{AreInOrder, first_in, first_with, given_sent, items_of, lasts_of, last_in, with_first, with_next};
 
 use crate::direction::Direction;
 use std::alloc::{AllocError, Global};
@@ -15,25 +15,25 @@ use std::marker::Model;
 struct Sent {
     direction: Direction,
     /// The number of the one before it in its queue; 0 where there is none.
-    previous: u32,
+    previous: u64,
     given: bool,
 }
 
 /// The numbers of the last mails to and from an agent; 0 where there is none.
 #[derive(Clone, Copy)]
 struct Lasts {
-    to_agent: u32,
-    from_agent: u32,
+    to_agent: u64,
+    from_agent: u64,
 }
 
 /// What is kept of an item's queue beside it.
 #[derive(Clone, Copy)]
 struct Link {
     /// The number of the one after it in its queue; 0 where there is none.
-    next: u32,
+    next: u64,
     /// Of the last in a queue, the number of the first that waits there; 0 where nothing does.
     /// Of others it says nothing.
-    first: u32,
+    first: u64,
 }
 
 /// All that was sent, each with its link, and the last numbers of each agent.
@@ -48,15 +48,14 @@ impl Model for Stores {
     ghost use Rattle.std.specs.Prelude.{◌-◌, length, min, vec_capacity};
     ghost use Rattle.std.specs.HashMap.{spare};
     ghost use Rattle.post_rules.specs.Queueing.{Post as Kept};
-    ghost use Rattle.post_rules.specs.Stores.{AreInOrder, AreLasts, AreLinked, items_of, numbers_left};
+    ghost use Rattle.post_rules.specs.Stores.{AreInOrder, AreLasts, AreLinked, items_of};
 
     ghost Value = { Kept };
 
     ghost view = { λ q. record {
       items = items_of q.sent.items;
-      room = min (min (min (vec_capacity q.sent - length q.sent.items)
-          (vec_capacity q.links - length q.links.items)) (spare q.lasts))
-          (numbers_left (length q.sent.items));
+      room = min (min (vec_capacity q.sent - length q.sent.items)
+          (vec_capacity q.links - length q.links.items)) (spare q.lasts);
     } };
 
     ghost invariant = { λ q. AreInOrder q.sent.items × AreLasts q.sent.items q.lasts
@@ -76,7 +75,7 @@ fn lasts_of(lasts: &HashMap<usize, Lasts>, agent: usize) -> Lasts
 }
 
 /// The number of the last in a direction's queue, 0 where there is none.
-fn last_in(lasts: &HashMap<usize, Lasts>, direction: Direction) -> u32
+fn last_in(lasts: &HashMap<usize, Lasts>, direction: Direction) -> u64
     ensures { result ≡ last_in lasts.now direction }
 {
     match direction {
@@ -87,7 +86,7 @@ fn last_in(lasts: &HashMap<usize, Lasts>, direction: Direction) -> u32
 }
 
 /// This number is the last in the direction's queue now.
-fn set_last(lasts: &mut HashMap<usize, Lasts>, direction: Direction, number: u32)
+fn set_last(lasts: &mut HashMap<usize, Lasts>, direction: Direction, number: u64)
     requires { 0 < spare lasts.old }
     ensures lasts { (d : Direction) → last_in lasts.new d
         ≡ (if same_queue direction d then number else last_in lasts.old d) }
@@ -132,7 +131,7 @@ fn is_next(sent: &[Sent], index: usize) -> bool
 
 /// The number of the first that waits in the queue whose last has this number;
 /// 0 where nothing waits there.
-fn first_in(links: &[Link], last: u32) -> u32
+fn first_in(links: &[Link], last: u64) -> u64
     requires { last ≤ length links.now }
     ensures { result ≡ first_in links.now last }
 {
@@ -145,14 +144,14 @@ fn first_in(links: &[Link], last: u32) -> u32
 
 /// Which is the first that waits once this number is added,
 /// where the first that waited before has that one, or none did and it is 0.
-fn first_with(waiting: u32, number: u32) -> u32
+fn first_with(waiting: u64, number: u64) -> u64
     ensures { result ≡ first_with waiting number }
 {
     if waiting == 0 { number } else { waiting }
 }
 
 /// This number is the first that waits in the queue whose last has that number, if there is one.
-fn set_first(links: &mut Vec<Link>, last: u32, number: u32)
+fn set_first(links: &mut Vec<Link>, last: u64, number: u64)
     requires { last ≤ length links.old.items }
     ensures items { links.new.items ≡ with_first last number links.old.items }
     ensures room { vec_capacity links.new ≡ vec_capacity links.old }
@@ -164,7 +163,7 @@ fn set_first(links: &mut Vec<Link>, last: u32, number: u32)
 }
 
 /// This number is the one after that number in its queue, if there is one.
-fn set_next(links: &mut Vec<Link>, before: u32, number: u32)
+fn set_next(links: &mut Vec<Link>, before: u64, number: u64)
     requires { before ≤ length links.old.items }
     ensures items { links.new.items ≡ with_next before number links.old.items }
     ensures room { vec_capacity links.new ≡ vec_capacity links.old }
@@ -173,13 +172,6 @@ fn set_next(links: &mut Vec<Link>, before: u32, number: u32)
         let link = &mut links[before as usize - 1];
         link.next = number;
     }
-}
-
-/// How many numbers are left where so many were sent.
-fn numbers_left(count: usize) -> usize
-    ensures { result ≡ numbers_left count }
-{
-    (u32::MAX as usize).saturating_sub(count)
 }
 
 fn hand_out(sent: &mut Vec<Sent>, index: usize)
@@ -204,14 +196,11 @@ impl Stores {
     }
 
     /// Makes room for so many more, whatever their directions.
-    /// It is refused where memory is, or where numbers would be above 4,294,967,295.
+    /// It is refused where memory is.
     pub(crate) fn reserve(&mut self, more: usize) -> Result<(), AllocError>
         ensures room { OnOk result (more ≤ self.new.room) }
         ensures items { self.new.items ≡ self.old.items }
     {
-        if numbers_left(self.sent.len()) < more {
-            return Err(AllocError);
-        }
         self.sent.reserve(more)?;
         self.links.reserve(more)?;
         self.lasts.reserve(more)
@@ -239,7 +228,7 @@ impl Stores {
             given: false,
         });
         let count = self.sent.len();
-        let number = count as u32;
+        let number = count as u64;
         set_next(&mut self.links, previous, number);
         self.links.push_reserved(Link {
             next: 0,
@@ -264,7 +253,7 @@ impl Stores {
         if first == 0 {
             return None;
         }
-        Some(u64::from(first))
+        Some(first)
     }
 
     /// What was delivered is marked.

@@ -1,8 +1,16 @@
--- What a store keeps that answered a request, where it is open.
+-- What a store keeps that answered a request, where it is open, and what its files keep.
 use Rattle.std.specs.Prelude.{◌≡◌, ℕ, Option}
 use Rattle.mails.specs.declared.record.Durable.{Durable}
+use Rattle.sqlite_disk.specs.declared.Disk.{Ghosts}
+use Rattle.sqlite_disk.specs.declared.Files.{Files}
+use Rattle.sqlite_wal.specs.Files.{outcomes}
+use Rattle.sqlite_wal.specs.Recovery.{Image}
+use Rattle.sqlite.specs.Closing.{HoldsAlone}
+use Rattle.sqlite.specs.Files.{image_of}
 use Rattle.sqlite.specs.State.{State, HasCleanDisk}
-use Rattle.keep_rows.specs.Tables.{IsReady}
+use Rattle.sqlite.specs.Tree.{Trees}
+use Rattle.sqlite_catalog.specs.Listing.{IsSound}
+use Rattle.keep_rows.specs.Tables.{IsReady, keeper_schema}
 use Rattle.record_saves.specs.Kept.{kept_in}
 use Rattle.keep_store.specs.Kept.{IsLoaded}
 
@@ -17,3 +25,13 @@ GivesRun s run = IsReady s × ((kept_in s.now.trees).last ≡ run)
 -- the store is ready, and this is the record that it keeps; None where it keeps none
 abbrev pub GivesRecord : State → Option Durable → Type 0
 GivesRecord s found = IsReady s × IsLoaded (kept_in s.now.trees).body found
+
+-- the two files hold a database that keeps this record, or none, as they read and after a stop;
+-- so does the database file alone, without its write-ahead file
+pub record KeepsRecord {D : Type 0} (g : Ghosts D) (files : Files D)
+    (found : Option Durable) : Type 0 where
+  pub trees : Trees
+  pub seen : HoldsAlone (image_of g files) trees
+  pub left : (image : Image) → outcomes g files.log files.db image → HoldsAlone image trees
+  pub sound : IsSound keeper_schema trees
+  pub loaded : IsLoaded (kept_in trees).body found

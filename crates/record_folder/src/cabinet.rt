@@ -1,6 +1,6 @@
 //! The store of an agent's record.
 
-ghost use Rattle.std.specs.Prelude.{◌≡◌, None, Some, IfOk, IsSomeAnd, OnOk, OnErr};
+ghost use Rattle.std.specs.Prelude.{◌≡◌, ℕ, None, Some, IfOk, IsSomeAnd, OnOk, OnErr};
 ghost use Rattle.sqlite.specs.State.{HasCleanDisk};
 ghost use Rattle.sqlite.specs.Files.{file_state};
 ghost use Rattle.record_folder.specs.Given.{GivesRecord, GivesRun};
@@ -100,6 +100,17 @@ impl OpenFiles {
         }
     }
 
+    /// Copies the write-ahead file into the database file, where the store is open. It stays open,
+    /// and is closed after a fault.
+    pub(crate) fn fold(&mut self, rt: &HostRuntime) -> Result<(), KeepFault>
+        ensures run { (run : ℕ) → IsSomeAnd self.old.store (λ keeper.
+            HasCleanDisk (file_state keeper) → GivesRun (file_state keeper) run)
+            → OnOk result (IsSomeAnd self.new.store (λ keeper. HasCleanDisk (file_state keeper)
+            → GivesRun (file_state keeper) run)) }
+    {
+        self.store.fold(rt)
+    }
+
     /// Has the store at a place answer a request. It stays open, and is closed after a fault.
     pub(crate) fn ask(
         &mut self,
@@ -142,10 +153,9 @@ impl<'a> FileCabinet<'a> {
         FileCabinet { place, store }
     }
 
-    /// Where the store is. The store is closed.
-    pub(crate) fn into_place(self) -> FilePlace<'a> {
-        let FileCabinet { place, store: _ } = self;
-        place
+    /// What its files are opened by.
+    pub(crate) fn runtime(&self) -> &'a HostRuntime {
+        self.place.runtime()
     }
 }
 

@@ -11,10 +11,10 @@ ghost use Rattle.record_folder.specs.Given.{GivesRun};
 ghost use Rattle.record_folder.specs.Refusals.{IsFileRefusal, IsFolderRefusal, IsRecordRefusal, IsStoreRefusal};
 ghost use Rattle.record_folder.specs.declared.folder_fault.FolderFault.TheVariants.{NoCluster};
 
-use crate::cabinet::{FileCabinet, FolderLock, OpenFiles, RecordFile};
+use crate::cabinet::{FolderLock, OpenFiles, RecordFile};
 use crate::folder_fault::{FolderFault, StoreHint};
-use crate::stores::{FilePlace, Request};
-use agent_core::{Cabinet, Record};
+use crate::stores::{FilePlace, Request, load_at};
+use agent_core::Record;
 use agent_sides::{ConfiguredAgent, ConfiguredAgents};
 use cluster_openings::good_opening;
 use keep_store::KeepFault;
@@ -37,12 +37,31 @@ pub struct Folder<'a> {
 }
 
 /// The next run of the master, from the store of its runs, which stays open.
-fn take_run(alloc: Global, store: &mut OpenFiles, place: &FilePlace<'_>) -> Result<Run, KeepFault>
+fn take_number(
+    alloc: Global,
+    store: &mut OpenFiles,
+    place: &FilePlace<'_>,
+) -> Result<Run, KeepFault>
     ensures { IfOk result (λ run. IsSomeAnd store.new.store
         (λ keeper. HasCleanDisk (file_state keeper) → GivesRun (file_state keeper) run)) }
 {
     let given = store.ask(place, alloc, Request::NextRun)?;
     given.run.ok_or(KeepFault::Damaged)
+}
+
+/// The next run of the master, from the store of its runs, which stays open, and whose write-ahead
+/// file is copied into its database file.
+fn take_run(
+    rt: &HostRuntime,
+    store: &mut OpenFiles,
+    place: &FilePlace<'_>,
+) -> Result<Run, KeepFault>
+    ensures { IfOk result (λ run. IsSomeAnd store.new.store
+        (λ keeper. HasCleanDisk (file_state keeper) → GivesRun (file_state keeper) run)) }
+{
+    let run = take_number(rt.alloc(), store, place)?;
+    store.fold(rt)?;
+    Ok(run)
 }
 
 /// Why the store of the runs of a folder failed, as far as the fault and the folder tell.
@@ -67,7 +86,7 @@ fn next_run(rt: &HostRuntime, folder: &str, store: &mut OpenFiles) -> Result<Run
 {
     let path = format!(in rt.alloc(); "{folder}/master.db")?;
     let place = FilePlace::new(rt, path);
-    match take_run(rt.alloc(), store, &place) {
+    match take_run(rt, store, &place) {
         Ok(run) => Ok(run),
         Err(fault) => {
             let path = place.into_path();
@@ -139,11 +158,9 @@ fn open_agent<'a>(
 {
     let name = agent.name.as_text();
     let path = format!(in rt.alloc(); "{folder}/agent-{name}.db")?;
-    let mut cabinet = FileCabinet::new(FilePlace::new(rt, path));
-    let found = cabinet.reopen(rt.alloc());
-    let place = cabinet.into_place();
-    match found {
-        Ok(found) => kept_at(rt.alloc(), agent, found, place),
+    let place = FilePlace::new(rt, path);
+    match load_at(&place, rt.alloc()) {
+        Ok(loaded) => kept_at(rt.alloc(), agent, loaded.record, place),
         Err(fault) => {
             let path = place.into_path();
             let hint = StoreHint::of(&fault);
@@ -228,11 +245,12 @@ fn open_agents<'a>(
 }
 
 /// Opens the stores of a folder, or makes those that lack: takes the master's next run, and reads
-/// the agents' records, a fresh one where there is none. The store of runs stays open, and so
+/// the agents' records, a fresh one where there is none. The write-ahead file of each is copied
+/// into its database file, and cut to its header of 41 bytes. The store of runs stays open, and so
 /// locked: as long as what is returned is there, K1 is the answer to every other server that opens
-/// the folder. The folder itself is to be there. Refusals come in the order: the store of runs,
-/// each agent's store and its total (Z1) in the order of their names, and then K2 where the records
-/// are those of no cluster.
+/// the folder. The folder itself is to be there. Refusals come in the order: the store of runs, each agent's store
+/// and its total (Z1) in the order of their names, and then K2 where the records are those of no
+/// cluster.
 pub fn open_folder<'a>(
     rt: &'a HostRuntime,
     folder: &str,

@@ -6,7 +6,9 @@ mod cabinet;
 mod folder;
 mod folder_fault;
 mod stores;
+mod telling;
 
 pub use cabinet::{FileCabinet, FolderLock, RecordFile};
 pub use folder::{Folder, open_folder};
 pub use folder_fault::{FolderFault, StoreHint};
+pub use telling::TellingCabinet;

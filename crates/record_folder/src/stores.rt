@@ -1,15 +1,20 @@
 //! The stores at places, and the requests to them.
 
-ghost use Rattle.std.specs.Prelude.{◌≡◌, ◌≢◌, ◌+◌, ◌<◌, ◌^◌, Some, None, IfOk, IfErr, IfSome, IsSomeAnd, OnOk, OnErr};
+ghost use Rattle.std.specs.Prelude.{◌≡◌, ◌≢◌, ◌+◌, ◌<◌, ◌^◌, ℕ, Option, Some, None, IfOk, IfErr, IfSome, IsSomeAnd, OnOk, OnErr};
+ghost use Rattle.mails.specs.declared.record.Durable.{Durable};
+ghost use Rattle.sqlite_wal.specs.Reads.{AreClean};
+ghost use Rattle.sqlite.specs.Files.{file_state};
 ghost use Rattle.sqlite.specs.State.{HasCleanDisk};
 ghost use Rattle.sqlite.specs.Held.{state};
 ghost use Rattle.record_saves.specs.Kept.{kept_in, with_record};
-ghost use Rattle.record_folder.specs.Given.{GivesRecord, GivesRun, IsUsable};
+ghost use Rattle.record_folder.specs.Given.{GivesRecord, GivesRun, IsUsable, KeepsRecord};
 
 use agent_core::Record;
+use keep_files::{fold, into_files};
 use keep_store::{KeepFault, Keeper};
 use names_core::Run;
-use sqlite::{Alter, FileFrom, FileStore, Unknown};
+use sqlite::{Alter, FileFrom, FileStore, Files, Unknown};
+use sqlite_disk::Disk;
 use std::alloc::Global;
 use std::marker::Model;
 
@@ -37,6 +42,11 @@ impl<'a> FilePlace<'a> {
 
     pub fn into_path(self) -> String {
         self.path
+    }
+
+    /// What its files are opened by.
+    pub(crate) fn runtime(&self) -> &'a HostRuntime {
+        self.rt
     }
 }
 
@@ -100,6 +110,38 @@ impl<S: Alter> OpenStore<S> {
         ensures { result ≡ None }
     {
         OpenStore { keeper: None }
+    }
+}
+
+/// A store over files whose write-ahead file is copied into its database file, where it is open.
+fn folded<D: Disk + Drop>(
+    rt: &HostRuntime,
+    kept: Option<Keeper<FileStore<D>>>,
+) -> Result<Option<Keeper<FileStore<D>>>, KeepFault>
+    ensures usable { IfOk result (λ again. IfSome again (λ keeper. IsUsable (file_state keeper))) }
+    ensures run { (run : ℕ) → IsSomeAnd kept (λ keeper. HasCleanDisk (file_state keeper)
+        → GivesRun (file_state keeper) run) → IfOk result (λ again. IsSomeAnd again
+        (λ keeper. HasCleanDisk (file_state keeper) → GivesRun (file_state keeper) run)) }
+{
+    match kept {
+        Some(keeper) => Ok(Some(fold(rt, keeper)?)),
+        None => Ok(None),
+    }
+}
+
+impl<D: Disk + Drop> OpenStore<FileStore<D>> {
+    /// Copies the write-ahead file of the store, where that is open, into its database file, and
+    /// cuts it to its header. It stays open, and is closed after a fault: K1 for an error of the
+    /// store, K4 for want of memory.
+    pub(crate) fn fold(&mut self, rt: &HostRuntime) -> Result<(), KeepFault>
+        ensures run { (run : ℕ) → IsSomeAnd self.old (λ keeper. HasCleanDisk (file_state keeper)
+            → GivesRun (file_state keeper) run) → OnOk result (IsSomeAnd self.new
+            (λ keeper. HasCleanDisk (file_state keeper) → GivesRun (file_state keeper) run)) }
+        ensures closed { OnErr result (self.new ≡ None) }
+    {
+        let kept = self.keeper.take();
+        self.keeper = folded(rt, kept)?;
+        Ok(())
     }
 }
 
@@ -237,4 +279,44 @@ pub(crate) fn ask_at<P: Place>(
     let (keeper, given) = answered(needed(place, kept, request)?, alloc, request)?;
     store.keeper = Some(keeper);
     Ok(given)
+}
+
+/// What was loaded from a store over files.
+#[derive(Drop)]
+pub(crate) struct Loaded<D: Disk + Drop> {
+    /// The record that it keeps; None where none was ever kept.
+    pub record: Option<Record>,
+    /// Its files, open and locked.
+    pub files: Files<D>,
+}
+
+/// The record that a store keeps, and its files, once its write-ahead file is copied into its
+/// database file and cut to its header.
+fn load_over<D: Disk + Drop>(
+    keeper: Keeper<FileStore<D>>,
+    alloc: Global,
+) -> Result<Loaded<D>, KeepFault>
+    requires { IsUsable (file_state keeper) }
+    ensures { IfOk result (λ loaded. AreClean D.Disk loaded.files.log loaded.files.db
+        → KeepsRecord D.Disk loaded.files loaded.record) }
+{
+    let (keeper, given) = record_given(keeper, alloc)?;
+    match into_files(keeper) {
+        Ok(files) => Ok(Loaded {
+            record: given.record,
+            files,
+        }),
+        Err((fault, store)) => {
+            drop(store.close());
+            Err(fault)
+        }
+    }
+}
+
+/// The record that the store at a place keeps, and its files, which stay open and locked.
+pub(crate) fn load_at(
+    place: &FilePlace<'_>,
+    alloc: Global,
+) -> Result<Loaded<FileFrom<Unknown>>, KeepFault> {
+    load_over(place.open()?, alloc)
 }

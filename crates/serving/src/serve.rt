@@ -9,7 +9,7 @@ use crate::staff::{Entrance, Leaver, Pace, seated, start_all};
 use desk_lock::{Desk, Office, OfficeFault, Pass, Passes, Recorded, SeatedHistory};
 use http_door::NoGate;
 use http_workers::{HttpFault, serve_all};
-use office_bench::{ConnectionLimits, Ending, Seating, StreamPlaces, TcpArrivals};
+use office_bench::{ConnectionLimits, Ending, Places, Seating, TcpArrivals};
 use record_folder::RecordFile;
 use running_clusters::{KeptEntry, Running};
 use std::alloc::Global;
@@ -67,6 +67,9 @@ fn why_ended(fault: Option<HttpFault>) -> Result<(), ServingFault> {
 /// So many connections are served at once where no number is asked for.
 const WORKERS: u32 = 64;
 
+/// Of so many bodies over 64 KiB are read at once.
+const BODIES: u64 = 8;
+
 /// How many connections are served at once.
 fn workers_of(asked: u32) -> u32
     ensures number { result ≡ (if asked == 0 then 64 else asked) }
@@ -100,11 +103,14 @@ fn serve_connections<
     passes: &mut Passes<KeptEntry, L>,
 ) -> Result<(), ServingFault> {
     let pass = seated(rt, alloc, office)?;
-    let streams = StreamPlaces::new(streams_of(pace.workers));
+    let streams = Places::new(streams_of(pace.workers));
+    let bodies = Places::new(BODIES);
     let limits = ConnectionLimits {
         connections: pace.connections,
         idle_seconds: pace.idle_seconds,
         streams: &streams,
+        bodies: &bodies,
+        keep_serving: pace.keep_serving,
     };
     let Entrance {
         listener,

@@ -4,11 +4,14 @@ ghost use Rattle.std.specs.Prelude.{◌≡◌, [], IfOk};
 
 use crate::fault::ServingFault;
 use crate::memory::{MemoryLimit, keep_within};
-use activities::{Stopwatch, activity, ticker};
+use activities::{ActivityFault, Stopwatch, activity, ticker};
 use desk_lock::{Office, Pass};
 use http_workers::HttpFault;
+use keep_store::KeepFault;
+use names_core::AgentName;
 use office_bench::Ending;
-use record_folder::RecordFile;
+use quantity::Resources;
+use record_folder::{FileCabinet, RecordFile, TellingCabinet};
 use running_clusters::{KeptEntry, Running};
 use std::alloc::Global;
 use std::net::{Net, TcpListener, TcpStream};
@@ -26,11 +29,14 @@ pub struct Pace {
     pub task_seconds: u64,
     /// So many connections are taken, any number; with 0 there is no limit.
     pub connections: u64,
-    /// After so many seconds without a byte a connection is at its end; with 0 never.
+    /// After so many seconds without a byte a connection is at its end, and after ten times as many
+    /// in one head or large body; with 0 never.
     pub idle_seconds: u64,
     /// So many connections are served at once, and a quarter of them are kept for those that are no
     /// streams; with 0 it is 64, and none is kept.
     pub workers: u32,
+    /// Whether the server goes on where memory or a thread is refused for a connection.
+    pub keep_serving: bool,
 }
 
 /// Where a server takes its connections, how much memory it may have, and whether it ends before
@@ -67,7 +73,34 @@ pub(crate) struct Leaver<L: ledger::Ledger> {
     pub fault: Option<ServingFault>,
 }
 
-/// An agent's activity. A fault that ends it ends the server.
+/// An agent's activity over its store. That its saves fail, and that they succeed again, is told on
+/// standard error.
+fn keep_agent<'a, D: Running, L: ledger::Ledger, R: Wait + Clock + Eprint>(
+    rt: &'a R,
+    alloc: Global,
+    office: &Office<D, L>,
+    pass: Pass<KeptEntry, L>,
+    agent: &'a AgentName,
+    total: &Resources,
+    cabinet: FileCabinet<'a>,
+    task_seconds: u64,
+) -> (Pass<KeptEntry, L>, Option<ActivityFault<KeepFault>>)
+    requires { pass.receipts ≡ [] }
+{
+    let mut cabinet = TellingCabinet::new(agent, cabinet);
+    activity(
+        rt,
+        alloc,
+        office,
+        pass,
+        agent,
+        &mut cabinet,
+        task_seconds,
+        total,
+    )
+}
+
+/// An agent's activity, which holds its store until it ends. A fault that ends it ends the server.
 fn keep_going<
     D: Running,
     L: ledger::Ledger,
@@ -83,16 +116,16 @@ fn keep_going<
 ) -> Leaver<L>
     requires { pass.receipts ≡ [] }
 {
-    let (agent, total, mut cabinet) = file.into_cabinet();
-    let (pass, fault) = activity(
+    let (agent, total, cabinet) = file.into_cabinet();
+    let (pass, fault) = keep_agent(
         rt,
         alloc,
         office,
         pass,
         &agent,
-        &mut cabinet,
-        task_seconds,
         &total,
+        cabinet,
+        task_seconds,
     );
     let Some(fault) = fault else {
         return Leaver { pass, fault: None };

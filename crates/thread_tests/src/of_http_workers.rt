@@ -1,6 +1,6 @@
 ghost use Rattle.std.specs.Prelude.{◌≡◌, ◌-◌, ◌<◌, ◌≤◌, [], ⊤, IfSome, length};
 
-use http_door::{Answer, Bench, Gate, Inlet, NoGate, Outlet, Sink, Source};
+use http_door::{Answer, Bench, Gate, Inlet, NoGate, Outlet, Section, Sink, Source};
 use http_workers::{Arrivals, HttpFault, serve_all};
 use mails::Call;
 use names_core::{FrameworkId, StreamId};
@@ -106,6 +106,10 @@ impl Arrivals for Waiting {
                 events: 1,
             },
         ))
+    }
+
+    fn bears(&mut self, _fault: HttpFault) -> bool {
+        false
     }
 
     fn give_up(&mut self, _fault: HttpFault) {}
@@ -222,6 +226,8 @@ impl Inlet for Line {
         }
     }
 
+    fn begin(&mut self, _section: Section, _there: usize) {}
+
     ghost reads_nothing = { λ _. tt };
 
     ghost reads_more = { λ _ _ _ _ _ _ _. tt };
@@ -241,6 +247,8 @@ impl Outlet for Line {
             }
         }
     }
+
+    fn begin_text(&mut self) {}
 
     ghost writes_nothing = { λ _. tt };
 
@@ -296,6 +304,10 @@ impl<'a> Arrivals for Accepting<'a> {
                 events: 1,
             },
         ))
+    }
+
+    fn bears(&mut self, _fault: HttpFault) -> bool {
+        false
     }
 
     fn give_up(&mut self, _fault: HttpFault) {}

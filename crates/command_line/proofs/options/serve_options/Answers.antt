@@ -21,3 +21,6 @@ returns-in_err-count_in-clause-none c = at_none _ c.from_residual-in_err-count_i
 
 pub returns-in_err-number_in-5-clause-none : goal.returns-in_err-number_in-5-clause-none
 returns-in_err-number_in-5-clause-none c = at_none _ c.from_residual-in_err-number_in-5.result (λ o has. c.in_err-number_in-5.ensures.none o.memory has.memory)
+
+pub returns-in_err-flag_in-clause-none : goal.returns-in_err-flag_in-clause-none
+returns-in_err-flag_in-clause-none c = at_none _ c.from_residual-in_err-flag_in.result (λ o has. c.in_err-flag_in.ensures.none o.keep_serving has.keep_serving)

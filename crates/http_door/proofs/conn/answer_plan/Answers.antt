@@ -1,5 +1,5 @@
-use Rattle.std.proofs.Common.{◌++◌, [], ℕ, List, ◌∙◌, refl, subst}
-use Rattle.http_door.specs.Turns.{waits_body, RespondsTo}
+use Rattle.std.proofs.Common.{◌++◌, [], ℕ, List, ◌∙◌, append-nil, refl, subst}
+use Rattle.http_door.specs.Turns.{waits_body}
 use Rattle.http_door.proofs.Sent.{all_of}
 use Rattle.http_door.proofs.Turns.{plan_whole, plan_refused}
 use Rattle.http_door.proofs.conn.answer_plan.Goals as goal
@@ -14,15 +14,14 @@ returns-in-Ok-Whole-clause-answered g c =
     let first = c.in-Ok.ensures.sent in
     let found = c.in-Ok-Whole.ensures.found in
     let has = rw c.in-Ok-Whole.field-0-is at found.2 in
-    let did = c.answer_body.ensures.answered in
-    let responds = subst (λ (t : List ℕ). RespondsTo c.answer_body.result c.args.plan t did.0 did.1) c.deref.ensures.value did.4 in (
+    let did = c.answer_body.ensures.answered in (
       found.0,
       did.0,
       first.0 ++ did.1,
-      found.1,
+      subst (λ (t : List ℕ). g.I.Inlet.reads c.args.inlet.now t c.answer_body.new.inlet) (append-nil found.0) (g.met.I.Inlet.reads_more _ _ _ _ _ found.1 c.answer_body.ensures.unread),
       did.2,
       g.met.O.Outlet.writes_more _ _ _ _ _ first.1 did.3,
-      plan_whole c.answer_body.result c.args.plan _ _ c.in-Ok-Whole.body.items _ did.0 first.0 did.1 has first.2 responds,
+      plan_whole c.answer_body.result c.args.plan _ _ c.in-Ok-Whole.body.items _ did.0 first.0 did.1 has first.2 did.4,
     )
 
 pub returns-in-Ok-Refused-clause-answered : goal.returns-in-Ok-Refused-clause-answered

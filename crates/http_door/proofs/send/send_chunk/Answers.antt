@@ -10,7 +10,7 @@ returns-in-Ok-clause-sent g c =
     let line = text ++ 13 ∷ 10 ∷ [] in
     let did = c.send_parts.ensures.sent in (
       did.0,
-      did.1,
+      g.met.O.Outlet.writes_more _ _ _ _ _ c.begin_text.ensures.unwritten did.1,
       subst (λ (t : List ℕ). Sends c.send_parts.result t did.0)
           (ap (λ (t : List ℕ). t ++ (c.as_bytes-in-Ok.result.now ++ line)) (c.as_bytes.ensures.value ∙ c.in-Ok.ensures.chunk)
           ∙ ap (λ (t : List ℕ). chunk_line (length text) ++ (t ++ line)) (c.as_bytes-in-Ok.ensures.value ∙ c.in-Ok.ensures.record)

@@ -1,8 +1,9 @@
 use Rattle.std.proofs.Common.{sym, ◌∙◌}
-use Rattle.cluster_model.specs.Calls.{on_accept}
+use Rattle.mails.specs.declared.call.Call.TheVariants as calls
+use Rattle.cluster_model.specs.Calls.{called, on_accept}
 use Rattle.master_state.specs.Works.{master_of}
 use Rattle.master_accept.proofs.Declining.{turned_down}
-use Rattle.master_accept.proofs.Accepted.{accepts_so, limited}
+use Rattle.master_accept.proofs.Accepted.{accepts_so, by_memory, limited, unlimited}
 use Rattle.master_accept.proofs.on_accept.accept.Goals as goal
 
 pub returns-in-Err : goal.returns-in-Err
@@ -10,9 +11,18 @@ returns-in-Err c = turned_down c.args.state.now c.args.given c.args.framework c.
 
 pub returns-then-passes_limits : goal.returns-then-passes_limits
 returns-then-passes_limits c =
-    limited c.args.state.now c.args.given c.args.framework c.in-Ok.stream c.args.offers.now c.args.tasks.now c.args.seconds c.in_ok-good.good (sym c.admit.ensures ∙ c.in-Ok.is) c.stand_in_order.ensures c.in_ok-good.ensures.good (sym c.passes_limits.ensures ∙ c.if-passes_limits.true)
+    limited c.args.state.now c.args.given c.args.framework c.in-Ok.stream c.args.offers.now c.args.tasks.now c.args.seconds (sym c.admit.ensures ∙ c.in-Ok.is) c.good_side-side.result c.good_side-side.ensures (sym c.passes_limits.ensures ∙ c.if-passes_limits.true)
 
 pub returns-in-Ok-accept_as : goal.returns-in-Ok-accept_as
 returns-in-Ok-accept_as c =
     rw c.in-Ok-accept_as.ensures
-    (accepts_so c.args.state.now c.args.given c.args.framework c.in-Ok.stream c.args.offers.now c.args.tasks.now c.args.seconds c.in_ok-good.good (sym c.admit.ensures ∙ c.in-Ok.is) c.as_slice-known.ensures.ordered c.stand_in_order.ensures c.in_ok-good.ensures.good c.in_ok-good.ensures.rows (sym c.passes_limits.ensures ∙ c.if-passes_limits.false))
+    (accepts_so c.args.state.now c.args.given c.args.framework c.in-Ok.stream c.args.offers.now c.args.tasks.now c.args.seconds (sym c.admit.ensures ∙ c.in-Ok.is) c.in_ok-good.good c.good_side-side.result c.as_slice-known.ensures.ordered c.stand_in_order.ensures c.good_side-side.ensures c.in_ok-good.ensures.good c.in_ok-good.ensures.rows (sym c.passes_limits.ensures ∙ c.if-passes_limits.false))
+
+pub returns-in_err-good : goal.returns-in_err-good
+returns-in_err-good c =
+    by_memory c.from_residual.result c.args.state.now c.args.state.now (called (master_of c.args.state.now) c.args.given (calls.Accept c.args.framework c.args.offers.now c.args.tasks.now c.args.seconds)) c.from_residual.ensures.1
+    (unlimited c.args.state.now c.args.given c.args.framework c.in-Ok.stream c.args.offers.now c.args.tasks.now c.args.seconds (sym c.admit.ensures ∙ c.in-Ok.is) c.good_side-side.result c.good_side-side.ensures (sym c.passes_limits.ensures ∙ c.if-passes_limits.false))
+
+pub returns-in-Err-accept_as : goal.returns-in-Err-accept_as
+returns-in-Err-accept_as c =
+    unlimited c.args.state.now c.args.given c.args.framework c.in-Ok.stream c.args.offers.now c.args.tasks.now c.args.seconds (sym c.admit.ensures ∙ c.in-Ok.is) c.good_side-side.result c.good_side-side.ensures (sym c.passes_limits.ensures ∙ c.if-passes_limits.false)

@@ -12,3 +12,6 @@ pub returns-in-Ok-reconcile_asked : goal.returns-in-Ok-reconcile_asked
 returns-in-Ok-reconcile_asked c =
     rw c.in-Ok-reconcile_asked.ensures
     (reconciled_so c.args.state.now c.args.given c.args.framework c.in-Ok.stream c.args.tasks.now (sym c.admit.ensures ∙ c.in-Ok.is))
+
+pub returns-in-Err-reconcile_asked : goal.returns-in-Err-reconcile_asked
+returns-in-Err-reconcile_asked c = (reconciled_so c.args.state.now c.args.given c.args.framework c.in-Ok.stream c.args.tasks.now (sym c.admit.ensures ∙ c.in-Ok.is)).0

@@ -46,11 +46,11 @@ returns-clause-book c =
     let rs = c.args.agents.now.items in
     let os = c.add_places.new.offers in
     let bs = c.add_places.new.tasks in
-    let r : AgentRow = record { name = c.in_ok-copy.field-0; is_in = true; total = c.args.total; taken = c.new.result } in
+    let r : AgentRow = record { name = c.in_ok-copy.field-0; is_in = true; total = c.args.total; free = c.whole.result } in
     let is = same_book c.args.names.now.keys rs c.args.offers.now os c.args.tasks.now bs c.requires.book c.add_places.ensures.same_offers c.add_places.ensures.same_tasks in
     let absent : list_any (bytes_eq c.args.name) c.args.names.now.keys ≡ false = ap (list_any (bytes_eq c.args.name)) c.requires.book.named ∙ new_name c.args.name rs c.requires.new in
     subst (λ rows. IsBook c.insert.new.self.keys rows os bs) (sym (c.push_reserved.ensures.items ∙ ap (λ l. l ++ r ∷ []) c.reserve.ensures.items))
-    (book_append c.args.names.now.keys c.insert.new.self.keys rs os bs r c.args.name is (omega arith) (omega arith) (row_fresh r c.new.ensures) c.in_ok-copy.ensures c.requires.new
+    (book_append c.args.names.now.keys c.insert.new.self.keys rs os bs r c.args.name is (omega arith) (omega arith) (row_fresh r c.whole.ensures) c.in_ok-copy.ensures c.requires.new
     (c.in_ok-insert.ensures.keys ∙ rw absent refl))
 
 pub returns-clause-ok : goal.returns-clause-ok
@@ -58,7 +58,7 @@ returns-clause-ok c =
     let rs = c.args.agents.now.items in
     let os = c.add_places.new.offers in
     let bs = c.add_places.new.tasks in
-    let r : AgentRow = record { name = c.in_ok-copy.field-0; is_in = true; total = c.args.total; taken = c.new.result } in
+    let r : AgentRow = record { name = c.in_ok-copy.field-0; is_in = true; total = c.args.total; free = c.whole.result } in
     let is = same_book c.args.names.now.keys rs c.args.offers.now os c.args.tasks.now bs c.requires.book c.add_places.ensures.same_offers c.add_places.ensures.same_tasks in
     ap (λ rows. accounts rows os bs) (c.push_reserved.ensures.items ∙ ap (λ l. l ++ r ∷ []) c.reserve.ensures.items)
     ∙ seen_append rs os bs r is.each (omega arith) (omega arith)
