@@ -4,3 +4,4 @@ pub mod Actions
 pub mod Walks
 pub mod Given
 pub mod Taken
+pub mod Forms

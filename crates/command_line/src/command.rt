@@ -1,9 +1,10 @@
 //! The command line.
 
-ghost use Rattle.std.specs.Prelude.{◌≡◌, List, Some, codes, IfOk, IfErr, IfSome, IfNone};
+ghost use Rattle.std.specs.Prelude.{◌≡◌, List, [], ◌∷◌, Some, codes, IfOk, IfErr, IfSome, IfNone};
 ghost use Rattle.command_line.specs.declared.command.Action.{Action as Asked};
 ghost use Rattle.clap.specs.Words.{FailsBy, HasKind, Row, Text, app_of, fault_of, found_of, new_app, rows_of, subcommand_of, subcommand_rows_of};
 ghost use Rattle.clap.specs.Walk.{texts};
+ghost use Rattle.command_line.specs.Forms.{HasValues, IsForm, Use, serve_words};
 ghost use Rattle.command_line.specs.Commands.{AsksFor, IsAction, IsTaken, IsWantOfMemory, command_line, plain_commands};
 
 use crate::options::{ServeOptions, serve_command, serve_options};
@@ -23,7 +24,7 @@ pub enum Action<'a> {
 
 /// The version, and the toolchain whose proofs it rests on. `tests/docs` compares it with that of
 /// `rt version`.
-const VERSION: &str = "1.0.0 (rattle-kit-13f, logic dac8208d650f15bf)";
+const VERSION: &str = "1.0.0 (rattle-kit-13, logic dac8208d650f15bf)";
 
 const ABOUT: &str =
     "A cluster manager by resource offers that speaks the Mesos scheduler HTTP API.";
@@ -167,6 +168,17 @@ fn matches_of<'a>(alloc: Global, words: &'a [&'a str]) -> Result<ArgMatches<'a>,
 /// Words that the table of commands takes ask for an action.
 pub fn taken_words_ask()
     ensures { (words : List Text) → IsTaken words → (a : Asked) × AsksFor words a }
+{}
+
+/// Words of the table's form are taken: a command's name, and then its options in any order, each
+/// at most once, with values that aren't empty and don't begin with `-`; and they have these values.
+pub fn words_of_the_form_are_taken()
+    ensures calls { (program : Text) → IsTaken (program ∷ codes "calls" ∷ []) }
+    ensures replay { (program : Text) → IsTaken (program ∷ codes "replay" ∷ []) }
+    ensures serve { (program : Text) (uses : List Use) → IsForm uses
+        → IsTaken (serve_words program uses) }
+    ensures values { (program : Text) (uses : List Use) → IsForm uses
+        → HasValues (serve_words program uses) uses }
 {}
 
 /// The action that the words of a command line ask for, the program's name first.
