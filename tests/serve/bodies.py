@@ -2,6 +2,7 @@
 """Sixty connections send a body of 1 MiB each at once, of 350,000 numbers: all are answered, and the server never has memory for more than some of them. While eight large bodies are
 read, a ninth waits for its turn, and is refused (H6) once it waited as long as a connection may be without a byte; smaller ones don't wait."""
 import json
+import os
 import socket
 import threading
 import time
@@ -10,8 +11,9 @@ from cluster import Folder, Framework, Server, check, request, send_raw
 
 MOST, PLACES, CONNECTIONS, IDLE = 1_048_576, 8, 60, 4
 ACCEPTED = b"HTTP/1.1 202 Accepted\r\n"
-# So many MiB more than before the server may have had at most: each of the eight is some 1 MiB of bytes, and of JSON some twenty times as much.
-MORE = 400
+# So many MiB more than before the server may have had at most: sixty bodies, and of eight the JSON, some twelve times as much each. The C library is told to keep one heap for
+# all threads: each that it has besides keeps what its largest body took.
+MORE, ONE_HEAP = 250, {"MALLOC_ARENA_MAX": "1"}
 
 
 def mebibytes(server, word):
@@ -101,7 +103,7 @@ def refused_after(port, call):
 
 
 def main():
-    with Folder({"a1": {"cpus": 1}}) as folder, Server(folder, "--idle-seconds", str(IDLE)) as server:
+    with Folder({"a1": {"cpus": 1}}) as folder, Server(folder, "--idle-seconds", str(IDLE), env={**os.environ, **ONE_HEAP}) as server:
         framework = Framework(server.port)
         body = large(framework)
         check(len(body) == MOST, f"the body has {len(body)} bytes")

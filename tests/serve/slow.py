@@ -6,11 +6,13 @@ import socket
 import threading
 import time
 
-from cluster import Folder, Framework, Server, check, request, send_raw
+from cluster import Folder, Framework, Server, check, request
 
 SECONDS, IN_ALL = 1, 10
-# A chunk has so many seconds, and a framework whose stream is hung up gives its offers back at the next round.
-CHUNK_SECONDS = 30
+# A chunk has so many seconds, and a framework whose stream is hung up gives its offers back at the next round. The offer of all these agents is a chunk of
+# some 300 KiB, of which the slow client takes so many bytes a second.
+CHUNK_SECONDS, PIECE = 30, 2_048
+AGENTS = {f"{number:03}-".ljust(64, "a"): {f"{name}-".ljust(64, "r"): 1 for name in range(8)} for number in range(256)}
 WHOLE = request(b'{"type":"TEARDOWN"}', "X: " + "y" * 200)
 LARGE = request(b" " * 200_000)
 # What is sent at once and what then drips, and how what is answered ends.
@@ -74,65 +76,69 @@ def try_inputs(folder):
     check(not failures, failures)
 
 
-def read_slowly(framework, stop):
-    """Takes a byte of a stream ten times a second."""
-    try:
-        while not stop.wait(0.1):
-            if not framework.socket.recv(1):
-                return
-    except OSError:
-        pass
-
-
-class Slow(Framework):
-    """A framework that takes a byte of its stream ten times a second, once it has its id, and whose system keeps no more than some KiB for it meanwhile."""
+class Slow:
+    """A framework that takes some KiB of its stream a second, and whose system keeps no more than some KiB for it meanwhile: small segments let the server's keep little too."""
 
     def __init__(self, port):
-        self.stop, self.slow = threading.Event(), None
-        super().__init__(port)
-
-    def _read(self):
+        self.socket = socket.socket()
         self.socket.setsockopt(socket.SOL_SOCKET, socket.SO_RCVBUF, 4_096)
-        size = int(self.file.readline(), 16)
-        text = self.file.read(size)
-        self.events.put(json.loads(text.partition(b"\n")[2]))
-        self.slow = threading.Thread(target=read_slowly, args=(self, self.stop), daemon=True)
-        self.slow.start()
+        self.socket.setsockopt(socket.IPPROTO_TCP, socket.TCP_MAXSEG, 536)
+        self.socket.connect(("127.0.0.1", port))
+        body = {"type": "SUBSCRIBE", "subscribe": {"framework_info": {"user": "tests", "name": "slow"}}}
+        self.socket.sendall(request(json.dumps(body).encode()))
+        self.count, self.stop = 0, threading.Event()
+        self.reader = threading.Thread(target=self.read, daemon=True)
+        self.reader.start()
 
-    def ask_much(self, times):
-        """Has so many times 256 updates be sent to it."""
-        tasks = [{"task_id": {"value": f"no-{number}"}} for number in range(256)]
-        body = {"type": "RECONCILE", "framework_id": {"value": self.id}, "reconcile": {"tasks": tasks}}
-        call = request(json.dumps(body).encode(), f"Mesos-Stream-Id: {self.stream}")
-        with socket.create_connection(("127.0.0.1", self.port), 20) as it:
-            for _ in range(times):
-                it.sendall(call)
-                check(it.recv(65536).startswith(b"HTTP/1.1 202 "), "a RECONCILE is accepted")
+    def read(self):
+        try:
+            while not self.stop.wait(1) and (piece := self.socket.recv(PIECE)):
+                self.count += len(piece)
+        except OSError:
+            pass
+
+    def close(self):
+        self.stop.set()
+        self.reader.join()
+        self.socket.close()
+
+
+def await_agents(port):
+    """Waits until each agent was offered, to a framework that is torn down then."""
+    framework, offered = Framework(port), 0
+    while offered < len(AGENTS):
+        event = framework.next("OFFERS")
+        check(event, f"each agent is offered, and {offered} were")
+        offered += len(event["offers"]["offers"])
+    check(framework.call("TEARDOWN") == (202, ""), "it is torn down")
 
 
 def try_stream(folder):
-    """How long a stream stays whose client takes a byte now and then: its framework's offer comes to another one then."""
+    """How long a stream stays whose client takes some KiB a second of a chunk of some hundred: its framework's offers come to another one then."""
     with Server(folder) as server:
-        slow = Slow(server.port)
-        time.sleep(2)
+        await_agents(server.port)
+        slow, began = Slow(server.port), time.monotonic()
+        time.sleep(3)
         other = Framework(server.port)
-        check(other.next("OFFERS", seconds=2) is None, "the slow one holds the offer")
-        slow.ask_much(400)
-        began = time.monotonic()
-        check(other.next("OFFERS", seconds=4 * CHUNK_SECONDS + 10), "the slow one is hung up, and its offer comes")
+        event = other.next("OFFERS", seconds=4 * CHUNK_SECONDS)
         seconds = time.monotonic() - began
-        slow.stop.set()
-        check(CHUNK_SECONDS - 10 < seconds < CHUNK_SECONDS + 10, f"it is hung up after {seconds:.1f} s, and {CHUNK_SECONDS} are due")
-        return seconds
+        slow.close()
+        check(event and len(event["offers"]["offers"]) == len(AGENTS), f"the slow one is hung up, and its offers come; it has taken {slow.count} bytes")
+        check(CHUNK_SECONDS <= seconds < CHUNK_SECONDS + 10, f"it is hung up after {seconds:.1f} s, and {CHUNK_SECONDS} are due")
+        check(slow.count < CHUNK_SECONDS * PIECE * 2, f"it has taken {slow.count} bytes")
+        return seconds, slow.count
 
 
 def main():
-    with Folder({"a1": {"cpus": 1}}) as folder, Folder({"a1": {"cpus": 1}}) as other:
+    with Folder({"a1": {"cpus": 1}}) as folder, Folder(AGENTS) as other:
         inputs = threading.Thread(target=try_inputs, args=(folder,))
         inputs.start()
-        seconds = try_stream(other)
+        seconds, count = try_stream(other)
         inputs.join()
-    print(f"heads and the rest of a large body that dripped ended after {SECONDS * IN_ALL} s with --idle-seconds {SECONDS}; a stream whose client took ten bytes a second was hung up after {seconds:.0f} s")
+    print(
+        f"heads and the rest of a large body that dripped ended after {SECONDS * IN_ALL} s with --idle-seconds {SECONDS}; "
+        f"a stream whose client took {count >> 10} KiB of a chunk, some a second, was hung up after {seconds:.0f} s"
+    )
 
 
 main()
