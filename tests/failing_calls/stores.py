@@ -5,7 +5,8 @@ At the start, over an empty folder, one with a record, and one whose record stan
 the folder: its run is above each that was told, and where there was a record it is still there, so that a smaller total is refused with Z1. And in the middle: of the
 calls from a task's ACCEPT to its end COUNT (12) fail, spread over all, once and for good; SEED (1) moves them. The task is told to run and to have finished, once
 each, or it is told lost and nothing else; then all that the agent owns is offered. A server whose store fails for good ends with K1, and one that is started again
-on the folder goes on from there. A C compiler is asked for. It prints what it checked, and ends within a minute.
+on the folder goes on from there. With --keep-serving the calls fail from one on for OUTAGE seconds and then succeed again: the server goes on, and tells at most once that the record can't be saved
+and once that it is saved again. A C compiler is asked for. It prints what it checked, and ends within a minute.
 """
 import collections
 import concurrent.futures
@@ -13,13 +14,16 @@ import random
 import subprocess
 import sys
 import tempfile
+import time
 
 from failing import SECONDS, Control
-from task import AT_ONCE, OWNS, run
+from task import AT_ONCE, OWNS, Job, goes_on, run
 from cluster import PROGRAM, Folder, Server, check, free_port, run_serve
 from store_files import FIRST_KEPT, FIRST_TABLES, RECORD_KEPT, SECOND_KEPT, SECOND_TABLES, TABLES, made, run_kept
 
 FAULT = "K1 Store "
+BEGUN, OVER = "agent a1 can't be saved, and is tried again each second: K1 Store ", "agent a1 is saved again\n"
+OUTAGE = 3
 # What a folder has at a start: the statements of the agent's store, and of the master's.
 FOLDERS = {
     "an empty folder": None,
@@ -104,6 +108,24 @@ def try_task(work, number, rest):
     return ", ".join(outcome.ways + ["the server ended"] * (outcome.said is not None))
 
 
+def try_outage(work, number):
+    """What comes of a task where the calls from this one on fail for a while, and the server is to keep serving."""
+    control, job = Control(work, f"control-{number}-outage"), Job()
+    with Folder({"a1": OWNS}) as folder, Server(folder, "--keep-serving", "--task-seconds", "1", env=control.environment) as server:
+        job.subscribe(server.port)
+        check(goes_on(job, server, job.offers_all), "all is offered at the start")
+        control.arm(Control.FILES, number, rest=True, scope=Control.OTHERS)
+        job.accept()
+        end = time.monotonic() + OUTAGE
+        check(goes_on(job, server, lambda: time.monotonic() > end), "a server that keeps serving goes on while a store fails")
+        _, failed = control.disarm()
+        check(goes_on(job, server, job.is_settled), "and its agent does once that works again")
+        server.kill()
+        told = server.process.stderr.read().decode().splitlines(keepends=True)
+    check(not told or (failed and len(told) == 2 and told[0].startswith(BEGUN) and told[1] == OVER), f"it is told once and once: {told}")
+    return "not reached" if not failed else "the task ran" if job.told else "it was lost"
+
+
 def main():
     count, seed = [int(it) for it in sys.argv[1:]] + [12, 1][len(sys.argv) - 1 :]
     offset = random.Random(seed).random()
@@ -119,6 +141,9 @@ def main():
             tally = collections.Counter(pool.map(lambda number: try_task(work, number, rest), numbers))
             told = "; ".join(f"{it} {n}" for it, n in sorted(tally.items()))
             print(f"a task, {len(numbers)} of some {ample.count} calls failing {'for good' if rest else 'once'} (seed {seed}): {told}")
+        tally = collections.Counter(pool.map(lambda number: try_outage(work, number), numbers))
+        told = "; ".join(f"{it} {n}" for it, n in sorted(tally.items()))
+        print(f"a task with --keep-serving, {len(numbers)} of these calls failing with all behind them for {OUTAGE} seconds: {told}")
 
 
 if __name__ == "__main__":

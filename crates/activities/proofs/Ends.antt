@@ -1,5 +1,5 @@
 -- Why an activity is over.
-use Rattle.std.proofs.Common.{◌≡◌, ◌⊎◌, ℕ, ◌+◌, List, length, Bool, true, false, Option, Some, None, Result, Ok, Err, inl, inr, refl, sym, ap, ◌∙◌, subst}
+use Rattle.std.proofs.Common.{◌≡◌, ℕ, List, Bool, true, false, Option, Some, None, Result, Ok, Err, inl, inr, refl, sym, ap, ◌∙◌, subst}
 use Rattle.std.proofs.lemmas.Bool.{MatchBool-at_true, MatchBool-at_false}
 use Rattle.std.specs.Prelude.{if◌then◌else◌, IfErr, IfOk}
 use Rattle.mails.specs.declared.record.Durable.{Durable}
@@ -21,10 +21,11 @@ use Rattle.desk_lock.specs.declared.office.Waited.{Waited}
 use Rattle.desk_lock.specs.declared.office.Waited.TheVariants.{Found, Elapsed, Finished}
 use Rattle.desk_lock.specs.declared.running.Wake.{Wake}
 use Rattle.desk_lock.specs.declared.running.Wake.TheVariants as wakes
-use Rattle.activities.specs.Asked.{IsTurnedAway, ends}
+use Rattle.activities.specs.Asked.{ends}
 use Rattle.activities.specs.Ends.{IsOver, IsShut}
 use Rattle.activities.specs.Seen.{IsSeen}
-use Rattle.activities.specs.Stops.{IsAfter, IsLeft, IsRefused, IsRestarted, found_of, mail_of, says_down, stop_of, unless_later}
+use Rattle.activities.specs.Stops.{IsAfter, IsByOffice, IsLeft, IsRefused, found_of, mail_of, says_down, stop_of, unless_later}
+use Rattle.activities.specs.declared.fault.ActivityFault.{ActivityFault}
 use Rattle.activities.specs.declared.fault.Stop.{Stop}
 use Rattle.activities.specs.declared.fault.Stop.TheVariants.{Ended, Failed, Later}
 
@@ -49,6 +50,30 @@ pub unless_later_over : {F : Type 0} (P : Type 0) (stop : Stop F) (res : Result 
 unless_later_over {F} P Later res is h = subst (λ (x : Result Unit (Stop F)). IfErr x (λ s. s ≡ Ended → P)) (sym is) tt
 unless_later_over {F} P Ended res is h = subst (λ (x : Result Unit (Stop F)). IfErr x (λ s. s ≡ Ended → P)) (sym is) h
 unless_later_over {F} P (Failed fault) res is h = subst (λ (x : Result Unit (Stop F)). IfErr x (λ s. s ≡ Ended → P)) (sym is) h
+
+stop_by_office : {F : Type 0} (b : Bool) (stop : Stop F) → stop ≡ (if b then Ended else Later) → IsByOffice stop
+stop_by_office true stop is = inr is
+stop_by_office false stop is = inl is
+
+found_by_office : {T : Type 0} (F : Type 0) (r : Result (Waited T) (OfficeFault ClusterFault)) → IfErr (found_of {T = T} {F = F} r) IsByOffice
+found_by_office F (Ok (Found found)) = tt
+found_by_office F (Ok Elapsed) = inl refl
+found_by_office F (Ok Finished) = inr refl
+found_by_office F (Err fault) = stop_by_office (ends fault) (stop_of fault) refl
+
+-- how a wait stops a turn
+pub stops_by_office : {T F : Type 0} (r : Result (Waited T) (OfficeFault ClusterFault)) (res : Result T (Stop F)) → res ≡ found_of r → IfErr res IsByOffice
+stops_by_office {T} {F} r res is = subst (λ (x : Result T (Stop F)). IfErr x IsByOffice) (sym is) (found_by_office F r)
+
+not_failed : {F P : Type 0} (fault : ActivityFault F) (stop : Stop F) → stop ≡ Failed fault → IsByOffice stop → P
+not_failed fault stop is (inl later) = (cc)
+not_failed fault stop is (inr ended) = (cc)
+
+-- what isn't left for later ends the activity
+pub unless_later_ends : {F : Type 0} (stop : Stop F) (res : Result Unit (Stop F)) → res ≡ unless_later stop → IsByOffice stop → IfErr res (λ s. s ≡ Ended)
+unless_later_ends {F} Later res is by = subst (λ (x : Result Unit (Stop F)). IfErr x (λ s. s ≡ Ended)) (sym is) tt
+unless_later_ends {F} Ended res is by = subst (λ (x : Result Unit (Stop F)). IfErr x (λ s. s ≡ Ended)) (sym is) refl
+unless_later_ends {F} (Failed fault) res is by = not_failed fault (Failed fault) refl by
 
 module _ {C : Type 0} (history : C → List Entry) (sound : C → Type 0) where
   -- a wait was refused for good

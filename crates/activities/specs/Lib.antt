@@ -1,4 +1,5 @@
 pub mod Asked
+pub mod Declines
 pub mod Ends
 pub mod Moments
 pub mod Rounds

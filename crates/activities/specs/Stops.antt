@@ -15,12 +15,21 @@ use Rattle.desk_lock.specs.declared.office.Waited.TheVariants.{Found, Elapsed, F
 use Rattle.desk_lock.specs.declared.running.Wake.{Wake}
 use Rattle.desk_lock.specs.declared.running.Wake.TheVariants as wakes
 use Rattle.activities.specs.Asked.{IsAnswered, ends}
+use Rattle.activities.specs.declared.fault.ActivityFault.TheVariants.{Damaged}
 use Rattle.activities.specs.declared.fault.Stop.{Stop}
-use Rattle.activities.specs.declared.fault.Stop.TheVariants.{Later, Ended}
+use Rattle.activities.specs.declared.fault.Stop.TheVariants.{Later, Ended, Failed}
 
 -- how a turn stops after a refusal: O1 and C8 alone end the activity
 abbrev pub stop_of : {F : Type 0} → OfficeFault ClusterFault → Stop F
 stop_of fault = if ends fault then Ended else Later
+
+-- a turn stops so by what the office answers, and by no fault of a cabinet
+abbrev pub IsByOffice : {F : Type 0} → Stop F → Type 0
+IsByOffice stop = (stop ≡ Later) ⊎ (stop ≡ Ended)
+
+-- an activity stops so for good also where it bears the faults of its cabinet
+abbrev pub IsLasting : {F : Type 0} → Stop F → Type 0
+IsLasting stop = (stop ≡ Ended) ⊎ (stop ≡ Failed Damaged)
 
 -- what a wait comes to: what was found, or how the turn stops
 abbrev pub found_of : {T F : Type 0} → Result (Waited T) (OfficeFault ClusterFault)

@@ -9,11 +9,20 @@ use running_clusters::ClusterFault;
 use std::fmt::{Debug, Display};
 use thiserror::Error;
 
+/// What it is to an activity that its cabinet can't be opened again after a save that failed.
+#[derive(Clone, Copy, Drop)]
+pub enum CabinetFailures {
+    /// It ends with the cabinet's fault, and finishes the office.
+    Fatal,
+    /// It opens the cabinet again each second; its agent alone is down meanwhile.
+    Borne,
+}
+
 /// Why an activity ends before the office is finished.
 #[derive(Debug, Drop, Error)]
 #[error_bound(F: Debug + Display)]
 pub enum ActivityFault<F> {
-    /// The cabinet failed in a save, and couldn't be opened again.
+    /// The cabinet failed in a save, and couldn't be opened again; never where that is borne.
     #[error("{0}")]
     Cabinet(F),
     /// What the cabinet keeps is neither the record of the draft that

@@ -4,12 +4,14 @@ ghost use Rattle.std.specs.Prelude.{◌≡◌, false, None, Some, IsTrue, IfErr,
 ghost use Rattle.mails.specs.declared.record.Durable.{Durable};
 ghost use Rattle.activities.specs.Ends.{IsOver};
 ghost use Rattle.activities.specs.Saved.{IsKept, IsLastSaved, IsOpen, Keeps, WasKept};
+ghost use Rattle.activities.specs.Stops.{IsLasting};
+ghost use Rattle.activities.specs.declared.fault.CabinetFailures.TheVariants.{Borne};
 ghost use Rattle.activities.specs.declared.fault.Stop.TheVariants.{Ended};
 ghost use Rattle.activities.specs.declared.keeping.Saving.TheVariants.{Kept, NoDraft};
 ghost use Rattle.cluster_steps.specs.declared.step.Keep.TheVariants.{After};
 ghost use Rattle.desk_lock.specs.Waits.{LacksAgent};
 
-use crate::fault::{ActivityFault, Stop, found};
+use crate::fault::{ActivityFault, CabinetFailures, Stop, found};
 use crate::receipts::has_stopped;
 use crate::records::is_own;
 use crate::worker::Worker;
@@ -152,6 +154,66 @@ impl<'a, D: Running, L: ledger::Ledger, R: Wait + Clock> Worker<'a, D, L, R> {
         let keep = self.standing(pass, opened, cabinet)?;
         let name = self.name()?;
         self.stop(pass, opened, own, name, keep)
+    }
+
+    /// Opens the cabinet again a second later, and again each second, until it could be opened and
+    /// the agent came up over the record that it keeps.
+    #[tactic(auto, using(crate::proofs::Saves::keeps_itself, crate::proofs::Saves::keeps_then))]
+    fn reopen_at_last<C: Cabinet>(
+        &self,
+        pass: &mut Pass<KeptEntry, L>,
+        opened: &mut Option<Record>,
+        own: &mut Option<Record>,
+        cabinet: &mut C,
+    ) -> Result<(), Stop<C::Fault>>
+        requires { IsOpen D.is_taken self.now.agent.now opened.old pass.old }
+        ensures keeps { Keeps D.is_taken (WasKept C.keeps) pass.old pass.new }
+        ensures opened { IsOpen D.is_taken self.now.agent.now opened.new pass.new }
+        ensures over { IfErr result (λ stop. stop ≡ Ended
+            → IsOver D.history D.sound D.record_of D.is_refused self.now.agent.now pass.new) }
+        ensures lasting { IfErr result IsLasting }
+    {
+        for _ in self.rt.forever() {
+            self.pause(pass)?;
+            match self.reopen(pass, opened, own, cabinet) {
+                Ok(()) => return Ok(()),
+                Err(Stop::Later | Stop::Failed(ActivityFault::Cabinet(_))) => {}
+                Err(Stop::Ended) => return Err(Stop::Ended),
+                Err(Stop::Failed(ActivityFault::Damaged)) => {
+                    return Err(Stop::Failed(ActivityFault::Damaged));
+                }
+            }
+        }
+        unreachable!()
+    }
+
+    /// What comes of a fault of a turn: it ends the activity, unless it is one of the cabinet and
+    /// these are borne. Then the cabinet is opened again until it can be, a second between two
+    /// tries.
+    #[tactic(auto, using(crate::proofs::Saves::keeps_itself))]
+    pub fn bear<C: Cabinet>(
+        &self,
+        pass: &mut Pass<KeptEntry, L>,
+        opened: &mut Option<Record>,
+        own: &mut Option<Record>,
+        cabinet: &mut C,
+        fault: ActivityFault<C::Fault>,
+    ) -> Result<(), Stop<C::Fault>>
+        requires { IsOpen D.is_taken self.now.agent.now opened.old pass.old }
+        ensures keeps { Keeps D.is_taken (WasKept C.keeps) pass.old pass.new }
+        ensures opened { IsOpen D.is_taken self.now.agent.now opened.new pass.new }
+        ensures over { IfErr result (λ stop. stop ≡ Ended
+            → IsOver D.history D.sound D.record_of D.is_refused self.now.agent.now pass.new) }
+        ensures borne { self.now.failures ≡ Borne → IfErr result IsLasting }
+    {
+        match (self.failures, fault) {
+            (CabinetFailures::Borne, ActivityFault::Cabinet(fault)) => {
+                drop(fault);
+                self.reopen_at_last(pass, opened, own, cabinet)
+            }
+            (_, ActivityFault::Damaged) => Err(Stop::Failed(ActivityFault::Damaged)),
+            (CabinetFailures::Fatal, fault) => Err(Stop::Failed(fault)),
+        }
     }
 
     /// Does what the last answer leaves to be done, and returns whether there was something: a

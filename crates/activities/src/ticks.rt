@@ -25,7 +25,7 @@ fn goes_on<A: Drop>(answer: Result<A, OfficeFault<ClusterFault>>) -> bool
 }
 
 /// The moment after the last one, by the seconds that were read: it isn't below the last one.
-fn moment_after(last: u32, seconds: Option<u32>) -> u32
+pub(crate) fn moment_after(last: u32, seconds: Option<u32>) -> u32
     ensures { result ≡ moment_after last seconds }
 {
     match seconds {

@@ -1,14 +1,17 @@
 //! What an agent does in a thread of its own.
 
-ghost use Rattle.std.specs.Prelude.{◌≡◌, None, Some, IfErr, IfNone, IfOk};
+ghost use Rattle.std.specs.Prelude.{◌≡◌, None, Some, IfErr, IfNone, IfOk, IfSome};
 ghost use Rattle.activities.specs.Ends.{IsOver};
 ghost use Rattle.activities.specs.Saved.{CommitsSaved, IsGrown, IsOpen, Keeps, WasKept};
 ghost use Rattle.activities.specs.Seen.{IsSeen};
+ghost use Rattle.activities.specs.Stops.{IsLasting};
+ghost use Rattle.activities.specs.declared.fault.ActivityFault.TheVariants.{Damaged};
+ghost use Rattle.activities.specs.declared.fault.CabinetFailures.TheVariants.{Borne};
 ghost use Rattle.activities.specs.declared.fault.Stop.TheVariants.{Ended};
 ghost use Rattle.cluster_steps.specs.declared.fault.ClusterFault.TheVariants.{NoSuchAgent};
 
 use crate::executor::Executors;
-use crate::fault::{ActivityFault, Stop};
+use crate::fault::{ActivityFault, CabinetFailures, Stop};
 use crate::worker::Worker;
 use agent_core::{Cabinet, Record};
 use desk_lock::{Office, Pass};
@@ -144,7 +147,8 @@ impl<'a, D: Running, L: ledger::Ledger, R: Wait + Clock> Worker<'a, D, L, R> {
         }
     }
 
-    /// Goes on, and waits for a second where something is left for later.
+    /// Goes on, and waits for a second where something is left for later, or until the cabinet could
+    /// be opened again where that is borne.
     fn turn<C: Cabinet>(
         &self,
         pass: &mut Pass<KeptEntry, L>,
@@ -158,10 +162,13 @@ impl<'a, D: Running, L: ledger::Ledger, R: Wait + Clock> Worker<'a, D, L, R> {
         ensures opened { IsOpen D.is_taken self.now.agent.now opened.new pass.new }
         ensures over { IfErr result (λ stop. stop ≡ Ended
             → IsOver D.history D.sound D.record_of D.is_refused self.now.agent.now pass.new) }
+        ensures borne { self.now.failures ≡ Borne → IfErr result IsLasting }
     {
         match self.go_on(pass, opened, own, cabinet, executors) {
+            Ok(()) => Ok(()),
             Err(Stop::Later) => self.pause(pass),
-            went => went,
+            Err(Stop::Ended) => Err(Stop::Ended),
+            Err(Stop::Failed(fault)) => self.bear(pass, opened, own, cabinet, fault),
         }
     }
 
@@ -180,6 +187,7 @@ impl<'a, D: Running, L: ledger::Ledger, R: Wait + Clock> Worker<'a, D, L, R> {
         ensures keeps { Keeps D.is_taken (WasKept C.keeps) pass.old pass.new }
         ensures over { IfNone result
             (IsOver D.history D.sound D.record_of D.is_refused self.now.agent.now pass.new) }
+        ensures borne { self.now.failures ≡ Borne → IfSome result (λ fault. fault ≡ Damaged) }
     {
         for _ in self.rt.forever() {
             match self.turn(pass, opened, own, cabinet, executors) {
@@ -199,8 +207,12 @@ impl<'a, D: Running, L: ledger::Ledger, R: Wait + Clock> Worker<'a, D, L, R> {
 /// less, it starts with that at its first turn in a session. A turn is due a second after the last
 /// one ended; what is due in it and the agent's mails take turns. What another caller commits of the
 /// agent is seen at a turn once the activity commits or stops the agent itself. It ends before by
-/// O1 and C8, and by a fault that it returns, for which it finishes the office; after other
-/// refusals it does the same again a second later.
+/// O1 and C8, and by a fault that it returns; after other refusals it does the same again a second
+/// later. After a save that failed the cabinet is opened again, and the agent comes up over the
+/// record that it keeps: its draft's or its own, or else the fault is `K2 Damaged`. Where it can't
+/// be opened, that is the fault, or is borne: then it is opened each second until it can be, and
+/// until then the agent does nothing. Where `failures` are fatal the office is finished for any
+/// fault; where they are borne it goes on without this agent.
 pub fn activity<D: Running, L: ledger::Ledger, R: Wait + Clock, C: Cabinet>(
     rt: &R,
     alloc: Global,
@@ -208,6 +220,7 @@ pub fn activity<D: Running, L: ledger::Ledger, R: Wait + Clock, C: Cabinet>(
     mut pass: Pass<KeptEntry, L>,
     agent: &AgentName,
     cabinet: &mut C,
+    failures: CabinetFailures,
     pace: u64,
     total: &Resources,
 ) -> (Pass<KeptEntry, L>, Option<ActivityFault<C::Fault>>)
@@ -216,6 +229,7 @@ pub fn activity<D: Running, L: ledger::Ledger, R: Wait + Clock, C: Cabinet>(
     ensures grown { IsGrown pass result.0 }
     ensures over { IfNone result.1
         (IsOver D.history D.sound D.record_of D.is_refused agent.now result.0) }
+    ensures borne { failures ≡ Borne → IfSome result.1 (λ fault. fault ≡ Damaged) }
 {
     let worker = Worker {
         rt,
@@ -223,12 +237,13 @@ pub fn activity<D: Running, L: ledger::Ledger, R: Wait + Clock, C: Cabinet>(
         office,
         agent,
         total,
+        failures,
     };
     let mut executors = Executors::new(alloc, pace);
     let mut opened = None;
     let mut own = None;
     let fault = worker.go_on_until_end(&mut pass, &mut opened, &mut own, cabinet, &mut executors);
-    if fault.is_some() {
+    if fault.is_some() && matches!(failures, CabinetFailures::Fatal) {
         office.finish(rt);
     }
     (pass, fault)

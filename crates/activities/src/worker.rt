@@ -6,13 +6,13 @@ ghost use Rattle.activities.specs.Asked.{IsAnswered};
 ghost use Rattle.activities.specs.Ends.{IsOver, IsShut};
 ghost use Rattle.activities.specs.Saved.{HasDelivered, IsOpen};
 ghost use Rattle.activities.specs.Seen.{IsSeen};
-ghost use Rattle.activities.specs.Stops.{IsAfter, IsLeft, IsRefused};
+ghost use Rattle.activities.specs.Stops.{IsAfter, IsByOffice, IsLeft, IsRefused};
 ghost use Rattle.activities.specs.declared.fault.Stop.TheVariants.{Ended, Later};
 ghost use Rattle.cluster_steps.specs.declared.fault.ClusterFault.TheVariants.{NoSuchAgent};
 ghost use Rattle.cluster_steps.specs.declared.step.Step.TheVariants.{Commit, Prepare, StopAgent};
 ghost use Rattle.desk_lock.specs.Answering.{Answers};
 
-use crate::fault::{Stop, found, mail_found, says_down, stop_of, unless_later};
+use crate::fault::{CabinetFailures, Stop, found, mail_found, says_down, stop_of, unless_later};
 use agent_core::Record;
 use desk_lock::{Answered, Office, OfficeFault, Pass};
 use names_core::AgentName;
@@ -66,6 +66,8 @@ pub(crate) struct Worker<'a, D: Running, L: ledger::Ledger, R: Wait + Clock> {
     pub agent: &'a AgentName,
     /// What is configured that it owns.
     pub total: &'a Resources,
+    /// What it is to it that its cabinet can't be opened again.
+    pub failures: CabinetFailures,
 }
 
 /// Two copies of an agent's name: one for a step of it, and one for its stop where it is down.
@@ -247,6 +249,7 @@ impl<'a, D: Running, L: ledger::Ledger, R: Wait + Clock> Worker<'a, D, L, R> {
             (λ c. FnReturnsAt G.Fn look c (Ok (Some found)))) }
         ensures over { IfErr result (λ stop. stop ≡ Ended → IsShut D.history D.sound
             (λ c. FnReturnsAt G.Fn look c (Err NoSuchAgent)) pass.now) }
+        ensures office { IfErr result IsByOffice }
     {
         found(self.office.wait_for(self.rt, pass, awaited, time, look))
     }
@@ -298,8 +301,9 @@ impl<'a, D: Running, L: ledger::Ledger, R: Wait + Clock> Worker<'a, D, L, R> {
 
     /// Waits for a second, unless the activity ends.
     pub fn pause<F>(&self, pass: &Pass<KeptEntry, L>) -> Result<(), Stop<F>>
-        ensures { IfErr result (λ stop. stop ≡ Ended
+        ensures over { IfErr result (λ stop. stop ≡ Ended
             → IsOver D.history D.sound D.record_of D.is_refused self.now.agent.now pass.now) }
+        ensures ended { IfErr result (λ stop. stop ≡ Ended) }
     {
         let look = |_: &D| -> Result<Option<()>, ClusterFault> { Ok(None) };
         match self.wait(pass, Awaited::time(), Duration::from_secs(1), look) {

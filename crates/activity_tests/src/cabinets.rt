@@ -73,6 +73,59 @@ impl Cabinet for Shelf {
     }
 }
 
+/// A cabinet one of whose saves fails, and that can't be opened again then for a while. It keeps the
+/// record that was saved last.
+#[derive(Drop)]
+pub struct Jammed {
+    /// How many saves succeed before the one that fails; None once that failed.
+    passes: Option<u32>,
+    /// How often it can't be opened.
+    jams: u32,
+    kept: Option<Record>,
+}
+
+impl Jammed {
+    pub fn new(passes: u32, jams: u32) -> Jammed {
+        Jammed {
+            passes: Some(passes),
+            jams,
+            kept: None,
+        }
+    }
+}
+
+impl Cabinet for Jammed {
+    ghost use Rattle.std.specs.Prelude.{⊤};
+
+    type Fault = AllocError;
+
+    ghost keeps = { λ _ _. ⊤ };
+
+    fn save(&mut self, _alloc: Global, durable: &Record) -> Result<(), AllocError> {
+        self.passes = match self.passes {
+            Some(0) => {
+                self.passes = None;
+                return Err(AllocError);
+            }
+            Some(passes) => Some(passes - 1),
+            None => None,
+        };
+        self.kept = Some(durable.copy()?);
+        Ok(())
+    }
+
+    fn reopen(&mut self, _alloc: Global) -> Result<Option<Record>, AllocError> {
+        if self.jams > 0 {
+            self.jams -= 1;
+            return Err(AllocError);
+        }
+        match &self.kept {
+            Some(kept) => Ok(Some(kept.copy()?)),
+            None => Ok(None),
+        }
+    }
+}
+
 /// Whether the save of each of two cabinets is open.
 #[derive(Drop)]
 pub struct Flags {

@@ -2,13 +2,14 @@
 
 ghost use Rattle.std.specs.Prelude.{◌≡◌, ⊤, None};
 ghost use Rattle.recorded_clusters.specs.Recording.{kind_of as kind_of_fault};
+ghost use Rattle.running_clusters.specs.Groups.{groups_of};
 
 use cluster_core::{ClusterFault, KeptEntry, Record, Step};
-use desk_lock::{Entered, FaultKind, Recorded};
+use desk_lock::{Entered, FaultKind, Freed, Recorded};
 use names_core::{AgentName, StreamId};
 use recorded_clusters::RecordedCluster;
-use running_clusters::{Awaited, Given, Running};
-use std::alloc::Global;
+use running_clusters::{Awaited, Given, OpenOffer, Running};
+use std::alloc::{AllocError, Global};
 
 /// A cluster whose agents are down once its history has so many entries, until one is stopped: a
 /// Prepare and a Commit are refused with C3 then.
@@ -70,6 +71,10 @@ impl Recorded for FallingCluster {
 
     ghost alike = { λ _ _. ⊤ };
 
+    ghost waits_in = { λ awaited. awaited };
+
+    ghost frees = { λ entry. groups_of entry };
+
     fn step(
         &mut self,
         alloc: Global,
@@ -108,8 +113,8 @@ impl Recorded for FallingCluster {
         RecordedCluster::group_of(awaited)
     }
 
-    fn frees(entry: &KeptEntry) -> u64 {
-        RecordedCluster::frees(entry)
+    fn freed_at(entry: &KeptEntry, index: usize) -> Option<Freed> {
+        RecordedCluster::freed_at(entry, index)
     }
 
     fn is_sound(&self) {}
@@ -137,6 +142,8 @@ impl Running for FallingCluster {
 
     ghost stream_of = { λ c stream. ⟦<RecordedCluster as Running>⟧.stream_of c.cluster stream };
 
+    ghost offers_of = { λ c. ⟦<RecordedCluster as Running>⟧.offers_of c.cluster };
+
     fn durable(&self, agent: &AgentName) -> Option<&Record> {
         self.cluster.durable(agent)
     }
@@ -155,6 +162,10 @@ impl Running for FallingCluster {
 
     fn stream(&self, stream: StreamId) -> Option<(usize, bool)> {
         self.cluster.stream(stream)
+    }
+
+    fn open_offers(&self, alloc: Global) -> Result<Vec<OpenOffer>, AllocError> {
+        self.cluster.open_offers(alloc)
     }
 
     ghost asks_its_step = { λ _. refl };

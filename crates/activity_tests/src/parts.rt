@@ -2,10 +2,10 @@
 
 ghost use Rattle.std.specs.Prelude.{◌≡◌, []};
 
-use crate::cabinets::{Flags, Held, Shelf};
+use crate::cabinets::{Flags, Held, Jammed, Shelf};
 use crate::framework::{launch, stop};
 use crate::offices::{OWNED, cpus, seat, wait_for_entries};
-use activities::{ActivityFault, Cabinet, Stopwatch, activity, ticker};
+use activities::{ActivityFault, Cabinet, CabinetFailures, Stopwatch, activity, ticker};
 use cluster_core::{Keep, KeptEntry, Step, StepCause};
 use desk_lock::{Office, Pass};
 use mails::ExecutorState;
@@ -21,7 +21,9 @@ use std::time::Clock;
 #[derive(Drop)]
 pub enum Part<'a> {
     /// An agent whose tasks run for one second, of which so many cpus are configured.
-    Agent(AgentName, Shelf, u64),
+    Agent(AgentName, Shelf, CabinetFailures, u64),
+    /// An agent whose cabinet can't be opened again for a while.
+    Jammed(AgentName, Jammed, CabinetFailures),
     /// An agent whose saves wait for the other's.
     Held(AgentName, Held<'a>),
     /// A framework launches a task, the agent is stopped after it if so,
@@ -155,12 +157,13 @@ fn work<D: Running, L: ledger::Ledger, R: Wait + Clock, C: Cabinet<Fault = Alloc
     pass: Pass<KeptEntry, L>,
     agent: &AgentName,
     cabinet: &mut C,
+    failures: CabinetFailures,
     amount: u64,
 ) -> Result<(Pass<KeptEntry, L>, End), AllocError>
     requires { pass.receipts ≡ [] }
 {
     let total = cpus(alloc, amount)?;
-    let (pass, fault) = activity(rt, alloc, office, pass, agent, cabinet, 1, &total);
+    let (pass, fault) = activity(rt, alloc, office, pass, agent, cabinet, failures, 1, &total);
     Ok((pass, end_of(fault)))
 }
 
@@ -184,11 +187,26 @@ fn play_out<D: Running, L: ledger::Ledger, R: Wait + Clock>(
     requires { pass.receipts ≡ [] }
 {
     match part {
-        Part::Agent(agent, mut shelf, amount) => {
-            work(rt, alloc, office, pass, &agent, &mut shelf, amount)
+        Part::Agent(agent, mut shelf, failures, amount) => {
+            work(
+                rt, alloc, office, pass, &agent, &mut shelf, failures, amount,
+            )
+        }
+        Part::Jammed(agent, mut jammed, failures) => {
+            work(
+                rt,
+                alloc,
+                office,
+                pass,
+                &agent,
+                &mut jammed,
+                failures,
+                OWNED,
+            )
         }
         Part::Held(agent, mut held) => {
-            let worked = work(rt, alloc, office, pass, &agent, &mut held, OWNED);
+            let fatal = CabinetFailures::Fatal;
+            let worked = work(rt, alloc, office, pass, &agent, &mut held, fatal, OWNED);
             if held.has_overlapped {
                 return overlapped(worked);
             }

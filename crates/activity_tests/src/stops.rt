@@ -7,7 +7,7 @@ use crate::cabinets::Flags;
 use crate::offices::{OWNED, PARTS, cpus, named, office, seat};
 use crate::parts::{End, Part, Played, end_of, play, played_from};
 use crate::stores::{MemoryStore, StopAt};
-use activities::activity;
+use activities::{CabinetFailures, activity};
 use cluster_core::KeptEntry;
 use desk_lock::{Office, Pass};
 use names_core::AgentName;
@@ -45,7 +45,8 @@ fn stored_from<D: Running, L: ledger::Ledger, R: Wait + Clock>(
     requires { pass.receipts ≡ [] }
 {
     let mut store = MemoryStore::new(alloc, stop);
-    let (pass, fault) = activity(rt, alloc, office, pass, agent, &mut store, 1, total);
+    let fatal = CabinetFailures::Fatal;
+    let (pass, fault) = activity(rt, alloc, office, pass, agent, &mut store, fatal, 1, total);
     match played_from(alloc, &pass, end_of(fault)) {
         Ok(played) => Some(Stored {
             played,

@@ -5,6 +5,7 @@ ghost use Rattle.std.specs.Prelude.{◌≡◌};
 use crate::cabinets::{Flags, Held, Kept, Shelf};
 use crate::offices::{OWNED, PARTS, named, office, seat};
 use crate::parts::{End, Part, Played, both, play};
+use activities::CabinetFailures;
 use cluster_core::Step;
 use desk_lock::{Office, Turn};
 use running_clusters::{Awaited, Running};
@@ -33,7 +34,8 @@ fn worked<
     L: ledger::Ledger + Send + Sync,
     R: Threads + Wait + Clock + Sync,
 >(rt: &R, alloc: Global, office: &Office<D, L>, keeps: Kept, count: usize) -> Option<Played> {
-    let part = Part::Agent(named(alloc, "a1")?, Shelf::new(Some(keeps)), OWNED);
+    let (agent, shelf) = (named(alloc, "a1")?, Shelf::new(Some(keeps)));
+    let part = Part::Agent(agent, shelf, CabinetFailures::Fatal, OWNED);
     let (worked, finisher) = both(rt, alloc, office, part, Part::Finisher(count));
     in_time(worked, finisher)
 }
@@ -102,7 +104,8 @@ fn grown<
     L: ledger::Ledger + Send + Sync,
     R: Threads + Wait + Clock + Sync,
 >(rt: &R, alloc: Global, office: &Office<D, L>, count: usize) -> Option<Played> {
-    let part = Part::Agent(named(alloc, "a1")?, Shelf::new(None), OWNED + 2);
+    let (agent, shelf) = (named(alloc, "a1")?, Shelf::new(None));
+    let part = Part::Agent(agent, shelf, CabinetFailures::Fatal, OWNED + 2);
     let (grown, finisher) = both(rt, alloc, office, part, Part::Finisher(count));
     in_time(grown, finisher)
 }
@@ -231,7 +234,8 @@ fn played_unknown<D: Running, L: ledger::Ledger, R: Wait + Clock>(
     alloc: Global,
     office: &Office<D, L>,
 ) -> Option<Played> {
-    let part = Part::Agent(named(alloc, "b9")?, Shelf::new(None), OWNED);
+    let (agent, shelf) = (named(alloc, "b9")?, Shelf::new(None));
+    let part = Part::Agent(agent, shelf, CabinetFailures::Fatal, OWNED);
     play(rt, alloc, office, part)
 }
 
@@ -252,4 +256,33 @@ fn ends_at_once<L: ledger::Ledger, R: Wait + Clock>(rt: &R, alloc: Global, blank
 
 pub fn an_unknown_agent<R: Wait + Clock>(rt: &R, alloc: Global) -> bool {
     ends_at_once::<Brand, _>(rt, alloc, Blank::new(PARTS))
+}
+
+fn played_damaged<D: Running, L: ledger::Ledger, R: Wait + Clock>(
+    rt: &R,
+    alloc: Global,
+    office: &Office<D, L>,
+) -> Option<Played> {
+    let (agent, shelf) = (named(alloc, "a1")?, Shelf::new(Some(Kept::Neither)));
+    let part = Part::Agent(agent, shelf, CabinetFailures::Borne, OWNED);
+    play(rt, alloc, office, part)
+}
+
+/// Whether the activity of an agent ends whose cabinet keeps another record, where its failures are
+/// borne, and the office answers others still.
+fn ends_alone<L: ledger::Ledger, R: Wait + Clock>(rt: &R, alloc: Global, blank: Blank) -> bool
+    requires name { blank.name ≡ L.name }
+    requires parts { (blank.parts ≡ L.parts) × (blank.parts ≡ 4294967296) }
+{
+    match office::<L>(alloc, blank, &["a1"]) {
+        Some(office) => {
+            let played = played_damaged(rt, alloc, &office);
+            is(&played, b"P", End::Damaged) && answers(rt, alloc, &office)
+        }
+        None => false,
+    }
+}
+
+pub fn another_record_alone<R: Wait + Clock>(rt: &R, alloc: Global) -> bool {
+    ends_alone::<Brand, _>(rt, alloc, Blank::new(PARTS))
 }

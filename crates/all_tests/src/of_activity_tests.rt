@@ -14,6 +14,21 @@ fn another_record_stands(rt: HostRuntime) {
 }
 
 #[test]
+fn another_record_alone(rt: HostRuntime) {
+    assert!(rt; tests::another_record_alone(&rt, rt.alloc()));
+}
+
+#[test]
+fn an_outage_is_borne(rt: HostRuntime) {
+    assert!(rt; tests::an_outage_is_borne(&rt, rt.alloc()));
+}
+
+#[test]
+fn an_outage_is_fatal(rt: HostRuntime) {
+    assert!(rt; tests::an_outage_is_fatal(&rt, rt.alloc()));
+}
+
+#[test]
 fn the_new_record_stands(rt: HostRuntime) {
     assert!(rt; tests::the_new_record_stands(&rt, rt.alloc()));
 }

@@ -14,6 +14,11 @@ fn a_waiting_call(rt: HostRuntime) {
 }
 
 #[test]
+fn a_call_in_another_group(rt: HostRuntime) {
+    assert!(rt; tests::a_call_in_another_group(&rt, rt.alloc()));
+}
+
+#[test]
 fn refused_steps(rt: HostRuntime) {
     assert!(rt; tests::refused_steps(&rt, rt.alloc()));
 }

@@ -346,38 +346,11 @@ valued_option a unnamed action least most taking parser case reading =
     inl (record { unnamed = unnamed; action = action; least = least; most = most; taking = taking; parser = parser; case = case; reading = reading })
 
 serve_has : AllByRecursion (λ a. IsOption serve.rules a (filled a)) serve_options
-serve_has = (
-  an_option _ refl refl refl refl (valued_option _ refl refl refl refl refl refl refl refl),
-  (
-    an_option _ refl refl refl refl (valued_option _ refl refl refl refl refl refl refl refl),
-    (
-      an_option _ refl refl refl refl (valued_option _ refl refl refl refl refl refl refl refl),
-      (
-        an_option _ refl refl refl refl (valued_option _ refl refl refl refl refl refl refl refl),
-        (
-          an_option _ refl refl refl refl (valued_option _ refl refl refl refl refl refl refl refl),
-          (
-            an_option _ refl refl refl refl (valued_option _ refl refl refl refl refl refl refl refl),
-            (
-              an_option _ refl refl refl refl (valued_option _ refl refl refl refl refl refl refl refl),
-              (
-                an_option _ refl refl refl refl (valued_option _ refl refl refl refl refl refl refl refl),
-                (
-                  an_option _ refl refl refl refl (valued_option _ refl refl refl refl refl refl refl refl),
-                  (an_option _ refl refl refl refl (inr (record { flag = refl; action = refl; least = refl; most = refl; taking = refl; missing = refl; passes = refl; reading = refl })), tt),
-                ),
-              ),
-            ),
-          ),
-        ),
-      ),
-    ),
-  ),
-)
+serve_has = (an_option _ refl refl refl refl (valued_option _ refl refl refl refl refl refl refl refl), (an_option _ refl refl refl refl (valued_option _ refl refl refl refl refl refl refl refl), (an_option _ refl refl refl refl (valued_option _ refl refl refl refl refl refl refl refl), (an_option _ refl refl refl refl (valued_option _ refl refl refl refl refl refl refl refl), (an_option _ refl refl refl refl (valued_option _ refl refl refl refl refl refl refl refl), (an_option _ refl refl refl refl (valued_option _ refl refl refl refl refl refl refl refl), (an_option _ refl refl refl refl (valued_option _ refl refl refl refl refl refl refl refl), (an_option _ refl refl refl refl (valued_option _ refl refl refl refl refl refl refl refl), (an_option _ refl refl refl refl (valued_option _ refl refl refl refl refl refl refl refl), (an_option _ refl refl refl refl (valued_option _ refl refl refl refl refl refl refl refl), (an_option _ refl refl refl refl (inr (record { flag = refl; action = refl; least = refl; most = refl; taking = refl; missing = refl; passes = refl; reading = refl })), tt)))))))))))
 
 -- each option of `serve`, and its `--help`, takes its default
 serve_defaults : AllByRecursion TakesDefault serve.rules
-serve_defaults = (inl refl, (inl refl, (inl refl, (inr refl, (inr refl, (inr refl, (inr refl, (inr refl, (inr refl, (inr refl, (inl refl, tt)))))))))))
+serve_defaults = (inl refl, (inl refl, (inl refl, (inr refl, (inr refl, (inr refl, (inr refl, (inr refl, (inr refl, (inr refl, (inr refl, (inl refl, tt))))))))))))
 
 free_at_first : (uses : List Use) → Free uses []
 free_at_first [] = tt

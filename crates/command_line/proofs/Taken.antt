@@ -26,7 +26,7 @@ serve = built_leaf serve_command.top
 
 serve_reads : Each (Reads serve.rules) serve.rules
 serve_reads =
-    ((refl, inr (inl (refl, refl))), ((refl, inr (inl (refl, refl))), ((refl, inr (inl (refl, refl))), ((refl, inr (inl (refl, refl))), ((refl, inr (inl (refl, refl))), ((refl, inr (inl (refl, refl))), ((refl, inr (inl (refl, refl))), ((refl, inr (inl (refl, refl))), ((refl, inr (inl (refl, refl))), ((refl, inr (inr (refl, omega arith))), ((refl, inl refl), tt)))))))))))
+    ((refl, inr (inl (refl, refl))), ((refl, inr (inl (refl, refl))), ((refl, inr (inl (refl, refl))), ((refl, inr (inl (refl, refl))), ((refl, inr (inl (refl, refl))), ((refl, inr (inl (refl, refl))), ((refl, inr (inl (refl, refl))), ((refl, inr (inl (refl, refl))), ((refl, inr (inl (refl, refl))), ((refl, inr (inl (refl, refl))), ((refl, inr (inr (refl, omega arith))), ((refl, inl refl), tt))))))))))))
 
 -- the rows of options that `serve` takes
 serve_fits : (words : List Text) → level_fault serve [] nothing_held words false [] ≡ [] → Each (Fits serve.rules) (rows_after serve.rules [] words)
@@ -47,16 +47,17 @@ three_given false b d other e = cc
 three_given true false d other e = cc
 three_given true true false other e = cc
 
--- the values of the ten options
+-- the values of the eleven options
 options_read : (rows : List Row) → Each (Fits serve.rules) rows → is_given (codes "port") rows ≡ true → is_given (codes "agents") rows ≡ true → is_given (codes "state") rows ≡ true
-    → has_row (codes "interval") rows ≡ true → has_row (codes "task-seconds") rows ≡ true → has_row (codes "conns") rows ≡ true → has_row (codes "idle-seconds") rows ≡ true → has_row (codes "workers") rows ≡ true
+    → has_row (codes "interval") rows ≡ true → has_row (codes "offer-seconds") rows ≡ true → has_row (codes "task-seconds") rows ≡ true → has_row (codes "conns") rows ≡ true → has_row (codes "idle-seconds") rows ≡ true → has_row (codes "workers") rows ≡ true
     → has_row (codes "memory") rows ≡ true → has_row (codes "keep-serving") rows ≡ true → (o : ServeOptions) × HasOptions rows o
-options_read rows fits port agents state interval task_seconds connections idle_seconds workers memory keep_serving =
+options_read rows fits port agents state interval offer_seconds task_seconds connections idle_seconds workers memory keep_serving =
     let row = λ (id : Text) (has : has_row id rows ≡ true). found_fits serve.rules id rows has fits in
     let p = row (codes "port") (given_row (codes "port") rows port) in
     let a = row (codes "agents") (given_row (codes "agents") rows agents) in
     let s = row (codes "state") (given_row (codes "state") rows state) in
     let i = row (codes "interval") interval in
+    let o = row (codes "offer-seconds") offer_seconds in
     let t = row (codes "task-seconds") task_seconds in
     let c = row (codes "conns") connections in
     let d = row (codes "idle-seconds") idle_seconds in
@@ -67,6 +68,7 @@ options_read rows fits port agents state interval task_seconds connections idle_
     let agents_is = text_given rows (codes "agents") a.0 a.1 a.2.2 in
     let state_is = text_given rows (codes "state") s.0 s.1 s.2.2 in
     let interval_is = number_given 64 1 3600 false rows (codes "interval") i.0 i.1 i.2.0 i.2.1 i.2.2 (omega arith) in
+    let offer_seconds_is = number_given 32 0 86400 false rows (codes "offer-seconds") o.0 o.1 o.2.0 o.2.1 o.2.2 (omega arith) in
     let task_seconds_is = number_given 64 0 86400 false rows (codes "task-seconds") t.0 t.1 t.2.0 t.2.1 t.2.2 (omega arith) in
     let connections_is = number_given 64 0 18446744073709551615 false rows (codes "conns") c.0 c.1 c.2.0 c.2.1 c.2.2 (omega arith) in
     let idle_seconds_is = number_given 64 0 86400 false rows (codes "idle-seconds") d.0 d.1 d.2.0 d.2.1 d.2.2 (omega arith) in
@@ -78,6 +80,7 @@ options_read rows fits port agents state interval task_seconds connections idle_
         agents = record { ref_ptr = (0, 0); now = agents_is.0 };
         state = record { ref_ptr = (0, 0); now = state_is.0 };
         interval = interval_is.0;
+        offer_seconds = offer_seconds_is.0;
         task_seconds = task_seconds_is.0;
         connections = connections_is.0;
         idle_seconds = idle_seconds_is.0;
@@ -90,6 +93,7 @@ options_read rows fits port agents state interval task_seconds connections idle_
         agents = agents_is.1;
         state = state_is.1;
         interval = interval_is.1;
+        offer_seconds = offer_seconds_is.1;
         task_seconds = task_seconds_is.1;
         connections = connections_is.1;
         idle_seconds = idle_seconds_is.1;
@@ -110,7 +114,7 @@ serve_taken words e =
     let defaults = neither (defaults_fault before serve.rules) _ settles.1 in
     let given = three_given (is_given (codes "port") rows) (is_given (codes "agents") rows) (is_given (codes "state") rows) _ defaults.1 in
     options_read rows (serve_fits words e) given.0 given.1 given.2
-    (default_given (codes "interval") serve.rules before refl) (default_given (codes "task-seconds") serve.rules before refl) (default_given (codes "conns") serve.rules before refl)
+    (default_given (codes "interval") serve.rules before refl) (default_given (codes "offer-seconds") serve.rules before refl) (default_given (codes "task-seconds") serve.rules before refl) (default_given (codes "conns") serve.rules before refl)
     (default_given (codes "idle-seconds") serve.rules before refl) (default_given (codes "workers") serve.rules before refl)
     (default_given (codes "memory") serve.rules before refl) (default_given (codes "keep-serving") serve.rules before refl)
 

@@ -38,6 +38,9 @@ state = asked_for (option (codes "state"))
 abbrev pub interval : Rule
 interval = otherwise (codes "1") (number_in 1 3600 (option (codes "interval")))
 
+abbrev pub offer_seconds : Rule
+offer_seconds = otherwise (codes "0") (number_in 0 86400 (option (codes "offer-seconds")))
+
 abbrev pub task_seconds : Rule
 task_seconds = otherwise (codes "10") (number_in 0 86400 (option (codes "task-seconds")))
 
@@ -63,8 +66,8 @@ with_required a = with_rule (with_rule (with_rule a port) agents) state
 -- and with those that aren't
 abbrev pub with_optional : App → App
 with_optional a =
-    with_rule (with_rule (with_rule (with_rule (with_rule (with_rule (with_rule a interval)
-    task_seconds) connections) idle_seconds) workers) memory) keep_serving
+    with_rule (with_rule (with_rule (with_rule (with_rule (with_rule (with_rule (with_rule a interval)
+    offer_seconds) task_seconds) connections) idle_seconds) workers) memory) keep_serving
 
 -- the command `serve`
 abbrev pub serve_command : App
@@ -88,6 +91,7 @@ pub record HasOptions (rows : List Row) (o : ServeOptions) : Type 0 where
   pub agents : first_of (codes "agents") rows ≡ Some o.agents.now
   pub state : first_of (codes "state") rows ≡ Some o.state.now
   pub interval : HasNumber 64 rows (codes "interval") o.interval
+  pub offer_seconds : HasNumber 32 rows (codes "offer-seconds") o.offer_seconds
   pub task_seconds : HasNumber 64 rows (codes "task-seconds") o.task_seconds
   pub connections : HasNumber 64 rows (codes "conns") o.connections
   pub idle_seconds : HasNumber 64 rows (codes "idle-seconds") o.idle_seconds

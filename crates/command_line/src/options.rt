@@ -21,6 +21,9 @@ pub struct ServeOptions<'a> {
     pub state: &'a str,
     /// So many seconds lie between two rounds of offers, from 1 to 3,600.
     pub interval: u64,
+    /// An offer that was left unanswered for so many seconds, from 0 to 86,400, is declined for as
+    /// many; with 0 none is.
+    pub offer_seconds: u32,
     /// So many seconds a task runs, from 0 to 86,400; with 0 until it is killed.
     pub task_seconds: u64,
     /// So many connections are accepted; with 0 there is no limit.
@@ -67,7 +70,10 @@ Started again on the same folder, the agents come up over their records, with th
 One server uses a folder at a time: `master.db` is locked from before its first read until the server ends, each agent's store from
 its load until the agent's activity ends, and a second server ends at once (K1 Store).
 
-The master makes a round of offers each `--interval` seconds. A task runs at its agent's next turn (TASK_RUNNING), and ends by
+The master makes a round of offers each `--interval` seconds. With `--offer-seconds` N an offer that its framework has left
+unanswered for N seconds is declined for it, and what it had isn't offered to that framework again for N seconds: so one that
+doesn't answer doesn't hold all that is free. The offer isn't rescinded: an ACCEPT that names it later is answered as one of an
+offer that is gone. A task runs at its agent's next turn (TASK_RUNNING), and ends by
 itself `--task-seconds` later (TASK_FINISHED); with 0 it runs until it is killed. Updates are sent again until they are
 acknowledged.
 
@@ -92,7 +98,10 @@ once when it is over. Where its store can't be opened again either, or a thread 
 answers what it is answering, ends the streams and the connections that wait, and is gone within two seconds of its last answer. With
 `--keep-serving` a refused thread, or want of memory for a connection, doesn't end it: a connection without a thread is closed
 unanswered, and the next one waits a moment. That is told once a minute, and so is a connection that the system can't make, with
-which it always goes on.
+which it always goes on. Nor does a store that can't be opened again: its agent alone is down, and tries again each second, told once
+as above, while the others, their tasks and all streams go on; what is launched on it meanwhile waits. Once the store opens, the record
+that it keeps is the agent's. Where that is neither the record before the save nor the one to be saved (K2 Damaged), the agent stays
+down until the server is started again, and that is told once.
 
 The history of a cluster is kept whole, in memory. With `--memory` MIB the server ends once it has so many MiB: it says so, and its
 status is 3. Started again, as a supervisor does, it goes on from its records.
@@ -177,6 +186,19 @@ fn interval<'a>(alloc: Global) -> Arg<'a>
     .default_value("1")
 }
 
+fn offer_seconds<'a>(alloc: Global) -> Arg<'a>
+    ensures { rule_of result ≡ options.offer_seconds }
+{
+    number_option(
+        alloc,
+        "offer-seconds",
+        "seconds after which an unanswered offer is declined, from 0 to 86400; 0 is never",
+        0,
+        86_400,
+    )
+    .default_value("0")
+}
+
 fn task_seconds<'a>(alloc: Global) -> Arg<'a>
     ensures { rule_of result ≡ options.task_seconds }
 {
@@ -248,7 +270,7 @@ fn keep_serving<'a>(alloc: Global) -> Arg<'a>
     flag(
         alloc,
         "keep-serving",
-        "a refused thread, or want of memory for a connection, doesn't end the server",
+        "a refused thread, want of memory for a connection, or an agent's store that fails doesn't end the server",
     )
 }
 
@@ -266,7 +288,8 @@ fn with_optional<'a>(alloc: Global, command: Command<'a>) -> Result<Command<'a>,
     ensures { IfOk result (λ more. app_of more ≡ options.with_optional (app_of command.entry)) }
 {
     let with_interval = command.arg(interval(alloc))?;
-    let with_task_seconds = with_interval.arg(task_seconds(alloc))?;
+    let with_offer_seconds = with_interval.arg(offer_seconds(alloc))?;
+    let with_task_seconds = with_offer_seconds.arg(task_seconds(alloc))?;
     let with_connections = with_task_seconds.arg(connections(alloc))?;
     let with_idle_seconds = with_connections.arg(idle_seconds(alloc))?;
     let with_workers = with_idle_seconds.arg(workers(alloc))?;
@@ -353,6 +376,7 @@ pub(crate) fn serve_options<'a>(found: &ArgMatches<'a>) -> Option<ServeOptions<'
         agents: text_in(found, "agents")?,
         state: text_in(found, "state")?,
         interval: number_in(found, "interval")?,
+        offer_seconds: count_in(found, "offer-seconds")?,
         task_seconds: number_in(found, "task-seconds")?,
         connections: number_in(found, "conns")?,
         idle_seconds: number_in(found, "idle-seconds")?,

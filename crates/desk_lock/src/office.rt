@@ -10,7 +10,9 @@ ghost use Rattle.desk_seats.specs.Refused.{refused_by};
 ghost use Rattle.desk_seats.specs.declared.fault.OfficeFault.TheVariants.{ForeignPass};
 
 use crate::groups::Groups;
-use desk_seats::{Answered, Desk, OfficeFault, Pass, Passes, Recorded, SeatedHistory, refusal};
+use desk_seats::{
+    Answered, Desk, Freed, OfficeFault, Pass, Passes, Recorded, SeatedHistory, refusal,
+};
 use std::alloc::Global;
 use std::sync::{Mutex, MutexGuard, Wait, ledger};
 use std::time::{Clock, Duration};
@@ -151,9 +153,20 @@ impl<C: Recorded, L: ledger::Ledger> Office<C, L> {
         open_seat_at(&mut *self.desk.lock(rt), alloc)
     }
 
-    /// Wakes those who may go on after an answer.
+    /// Wakes those who may go on after an answer: whom its outputs free. Neighbours that free the
+    /// same, as the events of a reconciliation, wake them once.
     fn wake(&self, answered: &Answered<C::Entry, C::Given>) {
-        self.groups.wake(C::frees(&answered.receipt.entry));
+        let entry = &answered.receipt.entry;
+        let mut woken = Freed::Nobody;
+        for index in 0..usize::MAX {
+            let Some(freed) = C::freed_at(entry, index) else {
+                return;
+            };
+            if freed != woken {
+                self.groups.wake(freed);
+            }
+            woken = freed;
+        }
     }
 
     /// Answers a call: the pass gets its receipt, which is returned too, with what comes with it.
@@ -299,7 +312,7 @@ impl<C: Recorded, L: ledger::Ledger> Office<C, L> {
     /// From now on nobody waits.
     pub fn finish<R: Wait>(&self, rt: &R) {
         self.desk.lock(rt).finish();
-        self.groups.wake(u64::MAX);
+        self.groups.wake_all();
     }
 
     /// Closes the office over these passes, as `Desk::close` does: for each the entries of its seat

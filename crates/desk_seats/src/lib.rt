@@ -11,4 +11,4 @@ pub use desk::passes::Passes;
 pub use desk::seated::SeatedHistory;
 pub use desk::{Desk, refusal};
 pub use fault::{FaultKind, OfficeFault};
-pub use recorded::{Entered, Recorded};
+pub use recorded::{Entered, Freed, GROUPS, Recorded};

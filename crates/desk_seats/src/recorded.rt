@@ -1,8 +1,9 @@
-//! What a desk records.
+//! What a desk records, and who waits for it.
 
-ghost use Rattle.std.specs.Prelude.{◌≡◌, ◌≤◌, ◌++◌, ◌∷◌, [], ◌↔◌, List, Some, IsTrue, IfOk, IfErr, OnErr, length, slice_get};
+ghost use Rattle.std.specs.Prelude.{◌≡◌, ◌≤◌, ◌++◌, ◌∷◌, [], ◌↔◌, ℕ, List, Some, IsTrue, IfOk, IfErr, OnErr, length, slice_get};
 ghost use Rattle.desk_seats.specs.declared.fault.FaultKind.{FaultKind};
 ghost use Rattle.desk_seats.specs.declared.fault.FaultKind.TheVariants.{OutOfMemory};
+ghost use Rattle.desk_seats.specs.declared.recorded.Freed.{Freed};
 
 use crate::fault::FaultKind;
 use std::alloc::Global;
@@ -12,6 +13,18 @@ use std::alloc::Global;
 pub struct Entered<E, G> {
     pub entry: E,
     pub given: G,
+}
+
+/// How many groups of waiting callers an office has, whatever it records.
+pub const GROUPS: u32 = 5_121;
+
+/// Whom an output of a step frees: those who wait for it.
+#[derive(Clone, Copy, Debug, Drop, PartialEq, Eq)]
+pub enum Freed {
+    /// Those of a group, a number from 0 to `GROUPS - 1`.
+    Group(u32),
+    Nobody,
+    Everyone,
 }
 
 /// What takes one step after another, and records each that it took.
@@ -54,6 +67,12 @@ pub trait Recorded: Drop {
     /// The two states answer alike.
     ghost alike: { Self → Self → Type 0 };
 
+    /// The group in which those wait who wait for this.
+    ghost waits_in: { Self.Awaited → ℕ };
+
+    /// Whom the outputs of an entry's step free, in the outputs' order.
+    ghost frees: { Self.Entry → List Freed };
+
     /// Takes a step, or refuses it.
     fn step(
         &mut self,
@@ -88,12 +107,15 @@ pub trait Recorded: Drop {
     fn out_of_memory() -> Self::Fault
         ensures { kind_of result ≡ OutOfMemory };
 
-    /// The group of those who wait for this, from 0 to 63; a greater one is taken modulo 64.
-    fn group_of(awaited: &Self::Awaited) -> u32;
+    /// The group of those who wait for this, from 0 to `GROUPS - 1`; a greater one is taken modulo
+    /// `GROUPS`.
+    fn group_of(awaited: &Self::Awaited) -> u32
+        ensures { result ≡ waits_in awaited.now };
 
-    /// Which of 64 groups of waiting callers may go on after the step, a bit for each:
-    /// those who wait for what it output.
-    fn frees(entry: &Self::Entry) -> u64;
+    /// Whom the output at an index frees, from 0 for the first of the entry's step; None behind the
+    /// last. It takes no memory.
+    fn freed_at(entry: &Self::Entry, index: usize) -> Option<Freed>
+        ensures { result ≡ slice_get (frees entry.now) index };
 
     /// Whatever steps it took, it is sound.
     fn is_sound(&self)

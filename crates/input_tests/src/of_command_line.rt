@@ -18,6 +18,7 @@ const SERVED: Action<'static> = Action::Serve(ServeOptions {
     agents: "agents.json",
     state: "here",
     interval: 1,
+    offer_seconds: 0,
     task_seconds: 10,
     connections: 3,
     idle_seconds: 75,
@@ -26,11 +27,12 @@ const SERVED: Action<'static> = Action::Serve(ServeOptions {
     keep_serving: false,
 });
 
-const SERVE_SLOWLY: [&str; 15] = [
+const SERVE_SLOWLY: [&str; 16] = [
     "mesos_node",
     "serve",
     "--interval",
     "3600",
+    "--offer-seconds=86400",
     "--task-seconds=0",
     "--state",
     "s",
@@ -49,6 +51,7 @@ const SERVED_SLOWLY: Action<'static> = Action::Serve(ServeOptions {
     agents: "f",
     state: "s",
     interval: 3_600,
+    offer_seconds: 86_400,
     task_seconds: 0,
     connections: 0,
     idle_seconds: 0,

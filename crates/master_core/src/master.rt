@@ -15,7 +15,7 @@ ghost use Rattle.master_core.specs.Steps.{Answers, Receives, greeting, is_open, 
 use crate::answer::answer;
 use crate::offered::sum_of;
 use crate::settle::settle;
-use agent_sides::ConfiguredAgents;
+use agent_sides::{ConfiguredAgents, Sides};
 use mails::{AgentMail, Call, MasterRefusal};
 use master_mails::{hang_up, lose_agent, mail as receive, tick};
 use master_rounds::allocate;
@@ -121,6 +121,16 @@ impl Master {
         match &self.state {
             Some(state) => state.frameworks.subscriber_on(stream).is_some(),
             None => false,
+        }
+    }
+
+    /// Its sides of all agents; None where it is down.
+    pub fn sides(&self) -> Option<&Sides>
+        ensures { option_map (λ s. s.now) result ≡ option_map (λ m. m.sides) self.now }
+    {
+        match &self.state {
+            Some(state) => Some(&state.sides),
+            None => None,
         }
     }
 

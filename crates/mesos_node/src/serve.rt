@@ -43,6 +43,29 @@ fn endpoint(port: u16) -> SocketAddrV4
     SocketAddrV4::new(Ipv4Addr::new(127, 0, 0, 1), port)
 }
 
+/// How fast a cluster runs that is served with these options.
+fn pace_of(options: &ServeOptions) -> Pace
+    ensures { result ≡ record {
+      interval = options.now.interval;
+      offer_seconds = options.now.offer_seconds;
+      task_seconds = options.now.task_seconds;
+      connections = options.now.connections;
+      idle_seconds = options.now.idle_seconds;
+      workers = options.now.workers;
+      keep_serving = options.now.keep_serving;
+    } }
+{
+    Pace {
+        interval: options.interval,
+        offer_seconds: options.offer_seconds,
+        task_seconds: options.task_seconds,
+        connections: options.connections,
+        idle_seconds: options.idle_seconds,
+        workers: options.workers,
+        keep_serving: options.keep_serving,
+    }
+}
+
 /// Serves the cluster of a folder, and returns the table at its end.
 fn serve_folder<
     R: Net<Listener = TcpListener, Stream = TcpStream> + Threads + Wait + Clock + Eprint + Sync,
@@ -68,14 +91,7 @@ fn serve_folder<
         Ok(cluster) => cluster,
         Err(_) => return Err(ServeFault::Memory),
     };
-    let pace = Pace {
-        interval: options.interval,
-        task_seconds: options.task_seconds,
-        connections: options.connections,
-        idle_seconds: options.idle_seconds,
-        workers: options.workers,
-        keep_serving: options.keep_serving,
-    };
+    let pace = pace_of(options);
     let blank = Blank::new(PARTS);
     let memory = MemoryLimit {
         rt,

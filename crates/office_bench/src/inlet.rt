@@ -1,6 +1,6 @@
 //! What a TCP client sends.
 
-ghost use Rattle.std.specs.Prelude.{◌≡◌, ◌≤◌, true, IfOk, length, ⊤};
+ghost use Rattle.std.specs.Prelude.{◌≡◌, ◌<◌, ◌≤◌, ◌+◌, true, Some, IfNone, IfOk, IfSome, OnSome, length, ⊤};
 
 use crate::ending::Ending;
 use crate::limits::ConnectionLimits;
@@ -163,7 +163,16 @@ impl<'a, R: Clock> Inlet for TcpInlet<'a, R> {
 
     ghost faults = { λ inlet. inlet.faults };
 
-    fn read(&mut self, piece: &mut [u8]) -> Option<usize> {
+    /// As `Inlet::read` has it; the count of failures rises by one for each.
+    fn read(&mut self, piece: &mut [u8]) -> Option<usize>
+        requires { self.old.faults < u64.MAX }
+        ensures within { IfSome result (λ n. n ≤ length piece.new) }
+        ensures bytes { IfSome result (λ _. ⊤) }
+        ensures end { result ≡ Some 0 → self.new.ended ≡ true }
+        ensures sound { OnSome result (self.new.faults ≡ self.old.faults) }
+        ensures failed { IfNone result (⊤ × (self.old.faults < self.new.faults)) }
+        ensures once { IfNone result (self.new.faults ≡ self.old.faults + 1) }
+    {
         if !self.may_read() {
             self.ended = true;
             return Some(0);

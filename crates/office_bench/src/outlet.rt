@@ -1,6 +1,6 @@
 //! What a TCP client is sent.
 
-ghost use Rattle.std.specs.Prelude.{◌≡◌, ◌<◌, ◌≤◌, IfOk, IfSome, length, ⊤};
+ghost use Rattle.std.specs.Prelude.{◌≡◌, ◌<◌, ◌≤◌, ◌+◌, IfNone, IfOk, IfSome, OnSome, length, ⊤};
 
 use crate::timing::have_passed;
 use http_door::Outlet;
@@ -76,7 +76,15 @@ impl<'a, R: Clock> Outlet for TcpOutlet<'a, R> {
 
     ghost faults = { λ outlet. outlet.faults };
 
-    fn write(&mut self, piece: &[u8]) -> Option<usize> {
+    /// As `Outlet::write` has it; the count of failures rises by one for each.
+    fn write(&mut self, piece: &[u8]) -> Option<usize>
+        requires { self.old.faults < u64.MAX }
+        ensures within { IfSome result (λ n. (0 < n) × (n ≤ length piece.now)) }
+        ensures bytes { IfSome result (λ _. ⊤) }
+        ensures sound { OnSome result (self.new.faults ≡ self.old.faults) }
+        ensures failed { IfNone result (⊤ × (self.old.faults < self.new.faults)) }
+        ensures once { IfNone result (self.new.faults ≡ self.old.faults + 1) }
+    {
         match write_in_time(self.rt, &mut self.stream, piece, self.begun) {
             Some(count) => Some(count),
             None => {

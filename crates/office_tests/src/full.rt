@@ -5,11 +5,11 @@ ghost use Rattle.cluster_steps.specs.declared.fault.ClusterFault.TheVariants.{Hi
 ghost use Rattle.recorded_clusters.specs.Recording.{kind_of as kind_of_fault};
 
 use cluster_core::{ClusterFault, KeptEntry, Record, Step};
-use desk_lock::{Entered, FaultKind, Recorded};
+use desk_lock::{Entered, FaultKind, Freed, Recorded};
 use names_core::{AgentName, StreamId};
 use recorded_clusters::RecordedCluster;
-use running_clusters::{Awaited, Given, Running};
-use std::alloc::Global;
+use running_clusters::{Awaited, Given, OpenOffer, Running};
+use std::alloc::{AllocError, Global};
 
 /// It refuses each step, as a cluster does whose history has all the entries that it can have.
 /// None of them is kept here.
@@ -41,6 +41,10 @@ impl Recorded for Full {
 
     ghost alike = { λ _ _. ⊤ };
 
+    ghost waits_in = { λ awaited. awaited };
+
+    ghost frees = { λ _. [] };
+
     fn step(
         &mut self,
         _alloc: Global,
@@ -69,12 +73,12 @@ impl Recorded for Full {
         ClusterFault::OutOfMemory
     }
 
-    fn group_of(_awaited: &Awaited) -> u32 {
-        0
+    fn group_of(awaited: &Awaited) -> u32 {
+        awaited.group()
     }
 
-    fn frees(_entry: &KeptEntry) -> u64 {
-        0
+    fn freed_at(_entry: &KeptEntry, _index: usize) -> Option<Freed> {
+        None
     }
 
     fn is_sound(&self) {}
@@ -83,7 +87,7 @@ impl Recorded for Full {
 }
 
 impl Running for Full {
-    ghost use Rattle.std.specs.Prelude.{◌≡◌, ⊤, None, false, refl};
+    ghost use Rattle.std.specs.Prelude.{◌≡◌, ⊤, None, [], false, refl};
 
     ghost is_taken = { λ _ _. ⊤ };
 
@@ -98,6 +102,8 @@ impl Running for Full {
     ghost has_session = { λ _ _. false };
 
     ghost stream_of = { λ _ _. None };
+
+    ghost offers_of = { λ _. [] };
 
     fn durable(&self, _agent: &AgentName) -> Option<&Record> {
         None
@@ -117,6 +123,10 @@ impl Running for Full {
 
     fn stream(&self, _stream: StreamId) -> Option<(usize, bool)> {
         None
+    }
+
+    fn open_offers(&self, alloc: Global) -> Result<Vec<OpenOffer>, AllocError> {
+        Ok(Vec::new(alloc))
     }
 
     ghost asks_its_step = { λ _. refl };

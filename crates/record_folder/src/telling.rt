@@ -1,4 +1,5 @@
-//! A cabinet that tells on standard error when its saves begin to fail, and when that is over.
+//! A cabinet that tells on standard error when its saves or its openings begin to fail, and when
+//! that is over.
 
 ghost use Rattle.sqlite.specs.State.{HasCleanDisk};
 ghost use Rattle.sqlite.specs.Files.{file_state};
@@ -12,14 +13,14 @@ use names_core::AgentName;
 use std::alloc::Global;
 use std::mem;
 
-/// Whether it was told that saves fail, and not yet that they succeed again.
+/// Whether it was told that a record can't be saved, and not yet that it is saved again.
 #[derive(Clone, Copy, Drop)]
 struct Telling {
     is_begun: bool,
 }
 
 impl Telling {
-    /// Whether it is to be told now that saves fail: once, until they succeed again.
+    /// Whether it is to be told now that a record can't be saved: once, until it is saved again.
     fn begins(&mut self) -> bool
         ensures once { result ≡ not self.old.is_begun }
         ensures begun { self.new.is_begun ≡ true }
@@ -27,8 +28,8 @@ impl Telling {
         !mem::replace(&mut self.is_begun, true)
     }
 
-    /// Whether it is to be told now that saves succeed again: once, and only where it was told that
-    /// they fail.
+    /// Whether it is to be told now that a record is saved again: once, and only where it was told
+    /// that it can't be.
     fn is_over(&mut self) -> bool
         ensures told { result ≡ self.old.is_begun }
         ensures over { self.new.is_begun ≡ false }
@@ -37,14 +38,18 @@ impl Telling {
     }
 }
 
-/// A cabinet, and the agent whose record it keeps. Once a save failed none is tried until the
-/// cabinet was opened again. That saves fail is told on standard error once the cabinet was opened
-/// again, so that the next save is tried: once, until one succeeds, and then that is told. Where
-/// the cabinet can't be opened again nothing is told.
+/// A cabinet, and the agent whose record it keeps. Once a save or an opening failed no save is tried
+/// until the cabinet was opened again. That the record can't be saved is told on standard error once
+/// the cabinet was opened again, so that the next save is tried: once, until one succeeds, and then
+/// that is told. Where the cabinet can't be opened again it is told too if that is tried again, and
+/// else nothing is.
 pub struct TellingCabinet<'a> {
     agent: &'a AgentName,
     cabinet: FileCabinet<'a>,
-    /// Why the last save failed; None where it succeeded, or the cabinet was opened again since.
+    /// Whether an opening that failed is tried again.
+    is_retried: bool,
+    /// Why the last save or opening failed; None where a save succeeded or the cabinet was opened
+    /// again since.
     failed: Option<KeepFault>,
     telling: Telling,
 }
@@ -55,6 +60,7 @@ impl<'a> Drop for TellingCabinet<'a> {
         let TellingCabinet {
             agent: _,
             cabinet: _,
+            is_retried: _,
             failed: _,
             telling: _,
         } = self;
@@ -62,19 +68,28 @@ impl<'a> Drop for TellingCabinet<'a> {
 }
 
 impl<'a> TellingCabinet<'a> {
-    pub fn new(agent: &'a AgentName, cabinet: FileCabinet<'a>) -> TellingCabinet<'a>
+    /// A cabinet of which nothing was told yet, whose openings that fail are tried again or aren't.
+    pub fn new(
+        agent: &'a AgentName,
+        cabinet: FileCabinet<'a>,
+        is_retried: bool,
+    ) -> TellingCabinet<'a>
         ensures cabinet { result.cabinet ≡ cabinet.entry }
+        ensures retried { result.is_retried ≡ is_retried }
         ensures failed { result.failed ≡ None }
+        ensures untold { result.telling.is_begun ≡ false }
     {
         TellingCabinet {
             agent,
             cabinet,
+            is_retried,
             failed: None,
             telling: Telling { is_begun: false },
         }
     }
 
-    /// Tells that the last save failed, if it did, and is tried again, unless that was told.
+    /// Tells why the last save or opening failed, if it did, and that it is tried again, unless that
+    /// was told.
     fn tell_failed(&mut self)
         ensures begun { IsSome self.old.failed → self.new.telling.is_begun ≡ true }
         ensures none { self.old.failed ≡ None → self.new.telling ≡ self.old.telling }
@@ -89,6 +104,19 @@ impl<'a> TellingCabinet<'a> {
             let _ = eprintln!(self.cabinet.runtime();
                 "agent {agent} can't be saved, and is tried again each second: {fault}"
             );
+        }
+    }
+
+    /// Notes why the cabinet can't be opened again, and tells it where that is tried again.
+    fn note_closed(&mut self, fault: KeepFault)
+        ensures begun { self.old.is_retried ≡ true → self.new.telling.is_begun ≡ true }
+        ensures untold { self.old.is_retried ≡ false → self.new.telling ≡ self.old.telling }
+        ensures cabinet { self.new.cabinet ≡ self.old.cabinet }
+        ensures failed { self.new.failed ≡ Some fault }
+    {
+        self.failed = Some(fault);
+        if self.is_retried {
+            self.tell_failed();
         }
     }
 
@@ -146,9 +174,13 @@ impl<'a> Cabinet for TellingCabinet<'a> {
             (λ keeper. HasCleanDisk (file_state keeper)
             → GivesRecord (file_state keeper) found)) }
         ensures opened { OnOk result (self.new.failed ≡ None) }
-        ensures closed { OnErr result (self.new.failed ≡ self.old.failed) }
+        ensures closed { IfErr result (λ fault. self.new.failed ≡ Some fault) }
         ensures told { OnOk result
             (IsSome self.old.failed → self.new.telling.is_begun ≡ true) }
+        ensures begun { OnErr result
+            (self.old.is_retried ≡ true → self.new.telling.is_begun ≡ true) }
+        ensures untold { OnErr result
+            (self.old.is_retried ≡ false → self.new.telling ≡ self.old.telling) }
     {
         match self.cabinet.reopen(alloc) {
             Ok(found) => {
@@ -156,7 +188,10 @@ impl<'a> Cabinet for TellingCabinet<'a> {
                 self.failed = None;
                 Ok(found)
             }
-            Err(fault) => Err(fault),
+            Err(fault) => {
+                self.note_closed(fault);
+                Err(fault)
+            }
         }
     }
 }

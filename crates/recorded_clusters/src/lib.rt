@@ -2,6 +2,7 @@
 //! its mails in their order.
 #![tactic(auto)]
 
+mod offers;
 mod recorded;
 
 pub use recorded::RecordedCluster;

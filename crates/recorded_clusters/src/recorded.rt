@@ -2,15 +2,16 @@
 
 ghost use Rattle.std.specs.Prelude.{◌≡◌};
 
+use crate::offers::open_offers;
 use agent_core::Record;
 use cluster_core::{Cluster, Taken};
 use cluster_steps::{ClusterFault, Step};
-use desk_seats::{Entered, FaultKind, Recorded};
+use desk_seats::{Entered, FaultKind, Freed, Recorded};
 use names_core::{AgentName, StreamId};
 use plain_data::Plain;
 use post_rules::Queues;
-use running_clusters::{Awaited, Given, KeptEntry, Running, groups_of};
-use std::alloc::Global;
+use running_clusters::{Awaited, Given, KeptEntry, OpenOffer, Running, freed_at};
+use std::alloc::{AllocError, Global};
 use std::marker::Model;
 
 /// A cluster each of whose calls is delivered once, and its mails once and in their order.
@@ -50,6 +51,7 @@ impl RecordedCluster {
 
 impl Recorded for RecordedCluster {
     ghost use Rattle.recorded_clusters.specs.Recording as recording;
+    ghost use Rattle.running_clusters.specs.Groups.{groups_of};
 
     type Step = Step;
 
@@ -74,6 +76,10 @@ impl Recorded for RecordedCluster {
     ghost may_refuse = { λ c step fault. recording.MayRefuse c step fault };
 
     ghost alike = { λ old new. recording.AreAlike old new };
+
+    ghost waits_in = { λ awaited. awaited };
+
+    ghost frees = { λ e. groups_of e };
 
     fn step(
         &mut self,
@@ -123,8 +129,8 @@ impl Recorded for RecordedCluster {
         awaited.group()
     }
 
-    fn frees(entry: &KeptEntry) -> u64 {
-        groups_of(entry.get())
+    fn freed_at(entry: &KeptEntry, index: usize) -> Option<Freed> {
+        freed_at(entry.get(), index)
     }
 
     fn is_sound(&self) {
@@ -142,6 +148,7 @@ impl Running for RecordedCluster {
     ghost use Rattle.recorded_clusters.specs.Answering.{IsRefusedBy, IsTakenBy};
     ghost use Rattle.cluster_core.specs.Reading.{IsFirstFrom, IsFirstTo, stream_in};
     ghost use Rattle.cluster_core.specs.Stories.{state_of};
+    ghost use Rattle.recorded_clusters.specs.Offers.{open_offers_in};
 
     ghost is_taken = { IsTakenBy };
 
@@ -158,6 +165,8 @@ impl Running for RecordedCluster {
         (agent_in agent (kept_agents (state_of c.story))) };
 
     ghost stream_of = { λ c stream. stream_in stream (state_of c.story) };
+
+    ghost offers_of = { λ c. open_offers_in (state_of c.story) };
 
     fn durable(&self, agent: &AgentName) -> Option<&Record> {
         self.cluster.durable(agent)
@@ -179,6 +188,13 @@ impl Running for RecordedCluster {
 
     fn stream(&self, stream: StreamId) -> Option<(usize, bool)> {
         self.cluster.stream(stream)
+    }
+
+    fn open_offers(&self, alloc: Global) -> Result<Vec<OpenOffer>, AllocError> {
+        match self.cluster.master() {
+            Some(master) => open_offers(alloc, master),
+            None => Ok(Vec::new(alloc)),
+        }
     }
 
     ghost asks_its_step = { λ _. refl };

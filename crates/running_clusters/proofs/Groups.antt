@@ -1,46 +1,97 @@
--- The groups that are woken of what was sent.
-use Rattle.std.proofs.Common.{◌≡◌, ◌∙◌, List, [], ◌∷◌, arith}
-use Rattle.std.proofs.lemmas.Nat.Bits.{bit_at_or, bit_at-pow_same}
-use Rattle.std.specs.Int.{bit_at}
-use Rattle.std.specs.Prelude.{ℕ, ◌≤◌, ◌^◌, fold, max}
+-- Who is woken of what a step output.
+use Rattle.std.proofs.Common.{◌<◌, ◌≤◌, ◌-◌, ◌≡◌, ℕ, zero, suc, Bool, true, false, if◌then◌else◌, List, [], ◌∷◌, ◌++◌, length, map, slice_get, option_map, All, Contains, inl, inr, refl, arith}
+use Rattle.std.proofs.lemmas.List.Elements.{All-cons, All-head, All-nil, All-tail, Contains-append_left, Contains-append_right}
+use Rattle.std.proofs.lemmas.Option.{slice_get-map}
+use Rattle.names_core.specs.Ids.{Numbered}
+use Rattle.scheduler_events.specs.declared.stream_event.StreamEvent.{StreamEvent}
 use Rattle.cluster_steps.specs.declared.verdict.Sent.{Sent}
 use Rattle.cluster_steps.specs.declared.verdict.Sent.TheVariants.{Call, ToAgent, ToMaster}
-use Rattle.running_clusters.specs.Groups.{IsAmong, WakesFor, WakesForEach, agent_group, groups_sent, with_group, with_mail}
+use Rattle.cluster_entries.specs.declared.entry.Entry.{Entry}
+use Rattle.desk_seats.specs.declared.recorded.Freed.{Freed}
+use Rattle.desk_seats.specs.declared.recorded.Freed.TheVariants.{Everyone}
+use Rattle.running_clusters.specs.Groups.{IsAmong, WakesFor, WakesForEach, ends_a_part, freed_by_end, freed_by_event, freed_by_sent, groups_closed, groups_of, groups_sent, groups_told, stream_group}
 
-max_left : (a b : ℕ) → a ≡ 1 → b ≤ 1 → max a b ≡ 1
-max_left a b is small = omega arith
+pub get_mapped : {X Y : Type 0} (f : X → Y) (xs : List X) (i : ℕ) → slice_get (map f xs) i ≡ option_map f (slice_get xs i)
+get_mapped f xs i = slice_get-map f xs i
 
-max_right : (a b : ℕ) → b ≡ 1 → a ≤ 1 → max a b ≡ 1
-max_right a b is small = omega arith
+pub get_left : {X : Type 0} (xs ys : List X) (i : ℕ) → i < length xs → slice_get (xs ++ ys) i ≡ slice_get xs i
+get_left [] ys i h = absurd (omega arith)
+get_left (x ∷ xs) ys zero h = refl
+get_left (x ∷ xs) ys (suc i) h = get_left xs ys i (omega arith)
 
-is_bit : (n i : ℕ) → bit_at n i ≤ 1
-is_bit n i = omega arith
+pub get_right : {X : Type 0} (xs ys : List X) (i : ℕ) → length xs ≤ i → slice_get (xs ++ ys) i ≡ slice_get ys (i - length xs)
+get_right [] ys i h = let e : i - 0 ≡ i = omega arith in rw e refl
+get_right (x ∷ xs) ys zero h = absurd (omega arith)
+get_right (x ∷ xs) ys (suc i) h =
+    let e : suc i - suc (length xs) ≡ i - length xs = omega arith in
+    rw e (get_right xs ys i (omega arith))
 
--- the group that is added is among them
-added : (groups group : ℕ) → IsAmong (with_group groups group) group
-added groups group = bit_at_or groups (2 ^ group) group ∙ max_right (bit_at groups group) (bit_at (2 ^ group) group) (bit_at-pow_same group) (is_bit groups group)
+-- whom each of these frees is among the freed, where all whom they free are
+each_within : {X : Type 0} (f : X → Freed) (xs : List X) (freed : List Freed) → ((one : Freed) → Contains (map f xs) one → Contains freed one) → All (λ x. Contains freed (f x)) xs
+each_within f [] freed within = All-nil (λ x. Contains freed (f x))
+each_within f (x ∷ xs) freed within =
+    All-cons (λ y. Contains freed (f y)) x xs (within (f x) (0, omega arith, refl))
+    (each_within f xs freed (λ one is. within one (Contains-append_right (f x ∷ []) (map f xs) one is)))
 
--- those that were among them stay
-stays : (groups group other : ℕ) → IsAmong groups other → IsAmong (with_group groups group) other
-stays groups group other is = bit_at_or groups (2 ^ group) other ∙ max_left (bit_at groups other) (bit_at (2 ^ group) other) is (is_bit (2 ^ group) other)
+wakes_one : (freed : List Freed) (one : Sent) → Contains freed (freed_by_sent one) → WakesFor freed one
+wakes_one freed Call is = tt
+wakes_one freed (ToAgent mail) is = inr is
+wakes_one freed (ToMaster mail) is = tt
 
-stays_with : (groups : ℕ) (next : Sent) (other : ℕ) → IsAmong groups other → IsAmong (with_mail groups next) other
-stays_with groups Call other is = is
-stays_with groups (ToAgent mail) other is = stays groups (agent_group mail.agent) other is
-stays_with groups (ToMaster mail) other is = is
+wakes_each : (freed : List Freed) (sent : List Sent) → All (λ one. Contains freed (freed_by_sent one)) sent → WakesForEach freed sent
+wakes_each freed [] all = tt
+wakes_each freed (one ∷ sent) all =
+    (wakes_one freed one (All-head (λ x. Contains freed (freed_by_sent x)) one sent all), wakes_each freed sent (All-tail (λ x. Contains freed (freed_by_sent x)) one sent all))
 
-stays_behind : (groups : ℕ) (sent : List Sent) (other : ℕ) → IsAmong groups other → IsAmong (fold with_mail groups sent) other
-stays_behind groups [] other is = is
-stays_behind groups (next ∷ sent) other is = stays_behind (with_mail groups next) sent other (stays_with groups next other is)
+everyone_one : (freed : List Freed) (one : Sent) → Contains freed Everyone → WakesFor freed one
+everyone_one freed Call is = tt
+everyone_one freed (ToAgent mail) is = inl is
+everyone_one freed (ToMaster mail) is = tt
 
-first_wakes : (groups : ℕ) (one : Sent) (sent : List Sent) → WakesFor (fold with_mail (with_mail groups one) sent) one
-first_wakes groups Call sent = tt
-first_wakes groups (ToAgent mail) sent = stays_behind (with_group groups (agent_group mail.agent)) sent (agent_group mail.agent) (added groups (agent_group mail.agent))
-first_wakes groups (ToMaster mail) sent = tt
+everyone_each : (freed : List Freed) (sent : List Sent) → Contains freed Everyone → WakesForEach freed sent
+everyone_each freed [] is = tt
+everyone_each freed (one ∷ sent) is = (everyone_one freed one is, everyone_each freed sent is)
 
-each_wakes : (groups : ℕ) (sent : List Sent) → WakesForEach (fold with_mail groups sent) sent
-each_wakes groups [] = tt
-each_wakes groups (one ∷ sent) = (first_wakes groups one sent, each_wakes (with_mail groups one) sent)
+everyone : Contains (Everyone ∷ []) Everyone
+everyone = (0, omega arith, refl)
 
-pub wakes_for_each : (sent : List Sent) → WakesForEach (groups_sent sent) sent
-wakes_for_each sent = each_wakes 0 sent
+-- whom a step frees with these outputs
+abbrev listed : Bool → List StreamEvent → List Numbered → List Sent → List Freed
+listed ends events closed sent =
+    if ends then Everyone ∷ []
+    else groups_told events ++ (groups_closed closed ++ groups_sent sent)
+
+mails_of : (ends : Bool) (events : List StreamEvent) (closed : List Numbered) (sent : List Sent) → WakesForEach (listed ends events closed sent) sent
+mails_of true events closed sent = everyone_each (Everyone ∷ []) sent everyone
+mails_of false events closed sent =
+    wakes_each (listed false events closed sent) sent
+    (each_within freed_by_sent sent (listed false events closed sent) (λ one is.
+    Contains-append_right (groups_told events) (groups_closed closed ++ groups_sent sent) one
+    (Contains-append_right (groups_closed closed) (groups_sent sent) one is)))
+
+events_of : (ends : Bool) (events : List StreamEvent) (closed : List Numbered) (sent : List Sent) → All (λ event. IsAmong (listed ends events closed sent) (stream_group event.stream)) events
+events_of true events closed sent = λ k d within. inl everyone
+events_of false events closed sent =
+    let each = each_within freed_by_event events (listed false events closed sent) (λ one is.
+    Contains-append_left (groups_told events) (groups_closed closed ++ groups_sent sent) one is) in
+    (λ k d within. inr (each k d within))
+
+ends_of : (ends : Bool) (events : List StreamEvent) (closed : List Numbered) (sent : List Sent) → All (λ stream. IsAmong (listed ends events closed sent) (stream_group stream)) closed
+ends_of true events closed sent = λ k d within. inl everyone
+ends_of false events closed sent =
+    let each = each_within freed_by_end closed (listed false events closed sent) (λ one is.
+    Contains-append_right (groups_told events) (groups_closed closed ++ groups_sent sent) one
+    (Contains-append_left (groups_closed closed) (groups_sent sent) one is)) in
+    (λ k d within. inr (each k d within))
+
+pub mails_wake : (e : Entry) → WakesForEach (groups_of e) e.outputs.sent
+mails_wake e = mails_of (ends_a_part e) e.outputs.events e.outputs.closed e.outputs.sent
+
+pub events_wake : (e : Entry) → All (λ event. IsAmong (groups_of e) (stream_group event.stream)) e.outputs.events
+events_wake e = events_of (ends_a_part e) e.outputs.events e.outputs.closed e.outputs.sent
+
+pub ends_wake : (e : Entry) → All (λ stream. IsAmong (groups_of e) (stream_group stream)) e.outputs.closed
+ends_wake e = ends_of (ends_a_part e) e.outputs.events e.outputs.closed e.outputs.sent
+
+pub nobody_wakes : (e : Entry) → ends_a_part e ≡ false → e.outputs.events ≡ [] → e.outputs.closed ≡ [] → e.outputs.sent ≡ [] → groups_of e ≡ []
+nobody_wakes e ends events closed sent = rw (ends, events, closed, sent) refl

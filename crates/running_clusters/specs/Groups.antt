@@ -1,6 +1,5 @@
--- In which of 64 groups callers wait, and which of them an entry wakes.
-use Rattle.std.specs.Prelude.{◌≡◌, ℕ, ◌+◌, ◌%◌, ◌^◌, ◌||◌, Bool, true, false, if◌then◌else◌, List, [], ◌∷◌, fold, sum, bit_or, ⊤}
-use Rattle.std.specs.Int.{bit_at}
+-- In which group callers wait, and whom an entry frees.
+use Rattle.std.specs.Prelude.{◌⊎◌, ℕ, ◌+◌, ◌*◌, ◌%◌, ◌++◌, ◌||◌, Bool, true, false, if◌then◌else◌, List, [], ◌∷◌, Contains, fold, map, ⊤}
 use Rattle.names_core.specs.Ids.{Numbered}
 use Rattle.scheduler_events.specs.declared.stream_event.StreamEvent.{StreamEvent}
 use Rattle.cluster_steps.specs.declared.step.Step.{Step}
@@ -10,59 +9,59 @@ use Rattle.cluster_steps.specs.declared.verdict.Sent.TheVariants.{Call, ToAgent,
 use Rattle.cluster_steps.specs.declared.verdict.Verdict.{Verdict}
 use Rattle.cluster_steps.specs.declared.verdict.Verdict.TheVariants.{OutOfMemory}
 use Rattle.cluster_entries.specs.declared.entry.Entry.{Entry}
+use Rattle.cluster_entries.specs.declared.entry.Outputs.{Outputs}
+use Rattle.desk_seats.specs.declared.recorded.Freed.{Freed}
+use Rattle.desk_seats.specs.declared.recorded.Freed.TheVariants.{Everyone, Group, Nobody}
 
--- where the events of a stream are waited for
+-- where the events of a stream are waited for: 4,096 groups
 abbrev pub stream_group : Numbered → ℕ
-stream_group stream = stream.n % 32
+stream_group stream = stream.n % 4096
 
--- where the mails to an agent are waited for
+-- the bytes of a name as the digits of a number, modulo a prime
+abbrev pub next_hash : ℕ → ℕ → ℕ
+next_hash hash byte = (hash * 131 + byte) % 65521
+
+abbrev pub name_hash : List ℕ → ℕ
+name_hash name = fold next_hash 0 name
+
+-- where the mails to an agent are waited for: 1,024 groups
 abbrev pub agent_group : List ℕ → ℕ
-agent_group agent = 32 + sum agent % 32
+agent_group agent = 4096 + name_hash agent % 1024
 
--- these groups, each of which is a bit, and one more
-abbrev pub with_group : ℕ → ℕ → ℕ
-with_group groups group = bit_or groups (2 ^ group)
+-- where is waited for nothing but that time passes
+abbrev pub time_group : ℕ
+time_group = 5120
 
--- these groups, and that of the stream on which an event is
-abbrev pub with_event : ℕ → StreamEvent → ℕ
-with_event groups event = with_group groups (stream_group event.stream)
+-- whom an event frees
+abbrev pub freed_by_event : StreamEvent → Freed
+freed_by_event event = Group (stream_group event.stream)
 
--- these groups, and that of a stream
-abbrev pub with_stream : ℕ → Numbered → ℕ
-with_stream groups stream = with_group groups (stream_group stream)
+-- whom the end of a stream frees
+abbrev pub freed_by_end : Numbered → Freed
+freed_by_end stream = Group (stream_group stream)
 
--- these groups, and that of the agent to whom a mail was sent
-abbrev pub with_mail : ℕ → Sent → ℕ
-with_mail groups Call = groups
-with_mail groups (ToAgent mail) = with_group groups (agent_group mail.agent)
-with_mail groups (ToMaster mail) = groups
+-- whom a call or a mail frees that was sent
+abbrev pub freed_by_sent : Sent → Freed
+freed_by_sent Call = Nobody
+freed_by_sent (ToAgent mail) = Group (agent_group mail.agent)
+freed_by_sent (ToMaster mail) = Nobody
 
 -- the groups of the streams on which these events are
-abbrev pub groups_told : List StreamEvent → ℕ
-groups_told events = fold with_event 0 events
+abbrev pub groups_told : List StreamEvent → List Freed
+groups_told events = map freed_by_event events
 
 -- the groups of these streams
-abbrev pub groups_closed : List Numbered → ℕ
-groups_closed closed = fold with_stream 0 closed
+abbrev pub groups_closed : List Numbered → List Freed
+groups_closed closed = map freed_by_end closed
 
 -- the groups of all agents to whom a mail was sent
-abbrev pub groups_sent : List Sent → ℕ
-groups_sent sent = fold with_mail 0 sent
+abbrev pub groups_sent : List Sent → List Freed
+groups_sent sent = map freed_by_sent sent
 
--- a group is among these, whose bit is 1
-abbrev pub IsAmong : ℕ → ℕ → Type 0
-IsAmong groups group = bit_at groups group ≡ 1
-
--- the group of the agent to whom a mail was sent is among these
-abbrev pub WakesFor : ℕ → Sent → Type 0
-WakesFor groups Call = ⊤
-WakesFor groups (ToAgent mail) = IsAmong groups (agent_group mail.agent)
-WakesFor groups (ToMaster mail) = ⊤
-
--- so it is with each of what was sent
-abbrev pub WakesForEach : ℕ → List Sent → Type 0
-WakesForEach groups [] = ⊤
-WakesForEach groups (one ∷ sent) = WakesFor groups one × WakesForEach groups sent
+-- whom outputs free, one after the other
+abbrev pub groups_output : Outputs → List Freed
+groups_output outputs =
+    groups_told outputs.events ++ (groups_closed outputs.closed ++ groups_sent outputs.sent)
 
 -- whether a step stopped the master
 abbrev pub stops_master : Step → Bool
@@ -74,11 +73,26 @@ abbrev pub lacks_memory : Verdict → Bool
 lacks_memory OutOfMemory = true
 lacks_memory verdict = false
 
--- the groups of those who wait for what a step output: all of them where it ended a master or an
--- agent, whose streams close unnamed
-abbrev pub groups_of : Entry → ℕ
-groups_of e =
-    if stops_master e.step || lacks_memory e.verdict then 18446744073709551615
-    else bit_or
-    (bit_or (groups_told e.outputs.events) (groups_closed e.outputs.closed))
-    (groups_sent e.outputs.sent)
+-- whether it ended a master or an agent
+abbrev pub ends_a_part : Entry → Bool
+ends_a_part e = stops_master e.step || lacks_memory e.verdict
+
+-- whom a step frees by what it output: everyone where it ended a master or an agent, whose streams
+-- close unnamed
+abbrev pub groups_of : Entry → List Freed
+groups_of e = if ends_a_part e then Everyone ∷ [] else groups_output e.outputs
+
+-- those who wait in a group are among the freed
+abbrev pub IsAmong : List Freed → ℕ → Type 0
+IsAmong freed group = Contains freed Everyone ⊎ Contains freed (Group group)
+
+-- those who wait for the agent to whom a mail was sent are among the freed
+abbrev pub WakesFor : List Freed → Sent → Type 0
+WakesFor freed Call = ⊤
+WakesFor freed (ToAgent mail) = IsAmong freed (agent_group mail.agent)
+WakesFor freed (ToMaster mail) = ⊤
+
+-- so it is with each of what was sent
+abbrev pub WakesForEach : List Freed → List Sent → Type 0
+WakesForEach freed [] = ⊤
+WakesForEach freed (one ∷ sent) = WakesFor freed one × WakesForEach freed sent

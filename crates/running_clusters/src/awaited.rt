@@ -1,24 +1,46 @@
-//! Who waits for what a step outputs, in 64 groups: those of streams, and those of agents.
+//! Who waits for what a step outputs, in groups: those of streams, those of agents, and one.
 
-ghost use Rattle.std.specs.Prelude.{◌≡◌, ◌<◌, ◌||◌, ◌^◌, List};
-ghost use Rattle.cluster_steps.specs.declared.verdict.Sent.{Sent};
-ghost use Rattle.running_clusters.specs.Groups.{WakesForEach, agent_group, groups_closed, groups_of, groups_sent, groups_told, lacks_memory, stops_master, stream_group, with_event, with_mail, with_stream};
+ghost use Rattle.std.specs.Prelude.{◌≡◌, ◌≤◌, ◌<◌, All, [], false, slice_get};
+ghost use Rattle.cluster_entries.specs.declared.entry.Entry.{Entry};
+ghost use Rattle.running_clusters.specs.Groups.{IsAmong, WakesForEach, agent_group, ends_a_part, freed_by_end, freed_by_event, freed_by_sent, groups_closed, groups_of, groups_output, groups_sent, groups_told, lacks_memory, name_hash, stops_master, stream_group, time_group};
 
-use cluster_entries::Entry;
+use cluster_entries::{Entry, Outputs};
 use cluster_steps::{Sent, Step, Verdict};
+use desk_seats::{Freed, GROUPS};
 use names_core::{AgentName, StreamId};
 use scheduler_events::StreamEvent;
+use std::marker::Model;
 
-/// What a caller of an office over a cluster waits for.
+/// The groups of streams are the first.
+const STREAMS: u32 = 4_096;
+
+/// Those of agents come next.
+const AGENTS: u32 = 1_024;
+
+/// The last is of those who wait for time.
+const TIME: u32 = STREAMS + AGENTS;
+
+const _: () = prove!(TIME < GROUPS);
+
+/// What a caller of an office over a cluster waits for. Contracts see its group.
 #[derive(Drop)]
 pub struct Awaited {
     group: u32,
 }
 
+impl Model for Awaited {
+    ghost use Rattle.std.specs.Prelude.{ℕ};
+
+    ghost Value = { ℕ };
+
+    ghost view = { λ awaited. awaited.group };
+}
+
 impl Awaited {
     /// The next event of a stream, or the stream's end.
     pub fn events_of(stream: StreamId) -> Awaited
-        ensures { result.group ≡ stream_group stream }
+        ensures group { result ≡ stream_group stream }
+        ensures range { result < 4096 }
     {
         Awaited {
             group: stream_group(stream),
@@ -27,113 +49,109 @@ impl Awaited {
 
     /// A mail to an agent.
     pub fn mails_to(agent: &AgentName) -> Awaited
-        ensures { result.group ≡ agent_group agent.now }
+        ensures group { result ≡ agent_group agent.now }
+        ensures least { 4096 ≤ result }
+        ensures most { result < 5120 }
     {
         Awaited {
             group: agent_group(agent),
         }
     }
 
-    /// That time passes. No group is free of callers: in this one those wait too who take events of
-    /// the streams whose numbers are divisible by 32, and a step that sends an event on such a
-    /// stream wakes the caller, which waits on.
-    pub fn time() -> Awaited {
-        Awaited { group: 0 }
+    /// That time passes. Who waits for that waits in a group of their own, which no output frees.
+    pub fn time() -> Awaited
+        ensures { result ≡ time_group }
+    {
+        Awaited { group: TIME }
     }
 
-    /// The group of those who wait for this, from 0 to 63.
+    /// The group of those who wait for this, from 0 to 5,120.
     pub fn group(&self) -> u32
-        ensures { result ≡ self.now.group }
+        ensures { result ≡ self.now }
     {
         self.group
     }
 }
 
-/// The group of those who wait for a stream's events, from 0 to 31.
+/// The group of those who wait for a stream's events, from 0 to 4,095.
 fn stream_group(stream: StreamId) -> u32
-    ensures same { result ≡ stream_group stream }
-    ensures few { result < 64 }
+    ensures { result ≡ stream_group stream }
 {
-    stream.number() % 32
+    stream.number() % STREAMS
 }
 
-/// The group of those who wait for mails to an agent, from 32 to 63.
-fn agent_group(agent: &AgentName) -> u32
-    ensures same { result ≡ agent_group agent.now }
-    ensures few { result < 64 }
+/// The bytes of a name as the digits of a number, modulo a prime.
+fn name_hash(agent: &AgentName) -> u32
+    ensures { result ≡ name_hash agent.now }
 {
     let bytes = agent.as_text().as_bytes();
-    let mut sum = 0;
+    let mut hash = 0;
     for byte in bytes {
-        sum = (sum + *byte as u32) % 32;
+        hash = (hash * 131 + *byte as u32) % 65_521;
     }
-    32 + sum
+    hash
 }
 
-/// The bit of a group.
-#[tactic(auto, using(std::proofs::lemmas::Nat::one_shl))]
-fn bit(group: u32) -> u64
-    requires { group < 64 }
-    ensures { result ≡ 2 ^ group }
+/// The group of those who wait for mails to an agent, from 4,096 to 5,119.
+fn agent_group(agent: &AgentName) -> u32
+    ensures { result ≡ agent_group agent.now }
 {
-    1 << group
+    STREAMS + name_hash(agent) % AGENTS
 }
 
-/// These groups, and that of the stream on which an event is.
-fn with_event(groups: u64, event: &StreamEvent) -> u64
-    ensures { result ≡ with_event groups event.now }
+/// Whom the event at an index frees: those who wait on its stream.
+#[tactic(auto, using(crate::proofs::Groups::get_mapped))]
+fn told_at(events: &[StreamEvent], index: usize) -> Option<Freed>
+    ensures { result ≡ slice_get (groups_told events.now) index }
 {
-    groups | bit(stream_group(event.stream))
+    let event = events.get(index)?;
+    Some(Freed::Group(stream_group(event.stream)))
 }
 
-/// These groups, and that of a stream.
-fn with_stream(groups: u64, stream: StreamId) -> u64
-    ensures { result ≡ with_stream groups stream }
+/// Whom the end of the stream at an index frees: those who wait on it.
+#[tactic(auto, using(crate::proofs::Groups::get_mapped))]
+fn closed_at(closed: &[StreamId], index: usize) -> Option<Freed>
+    ensures { result ≡ slice_get (groups_closed closed.now) index }
 {
-    groups | bit(stream_group(stream))
+    let stream = closed.get(index)?;
+    Some(Freed::Group(stream_group(*stream)))
 }
 
-/// The groups of the streams on which these events are.
-fn groups_told(events: &[StreamEvent]) -> u64
-    ensures { result ≡ groups_told events.now }
-{
-    let mut groups = 0;
-    for event in events {
-        groups = with_event(groups, event);
-    }
-    groups
-}
-
-/// The groups of these streams.
-fn groups_closed(closed: &[StreamId]) -> u64
-    ensures { result ≡ groups_closed closed.now }
-{
-    let mut groups = 0;
-    for stream in closed {
-        groups = with_stream(groups, *stream);
-    }
-    groups
-}
-
-/// These groups, and that of the agent to whom a mail was sent.
-fn with_mail(groups: u64, sent: &Sent) -> u64
-    ensures { result ≡ with_mail groups sent.now }
+/// Whom what was sent frees: those who wait for mails to the agent. For a call or a mail to the
+/// master nobody waits.
+fn freed_by_sent(sent: &Sent) -> Freed
+    ensures { result ≡ freed_by_sent sent.now }
 {
     match sent {
-        Sent::ToAgent(mail) => groups | bit(agent_group(&mail.get().agent)),
-        Sent::Call | Sent::ToMaster(_) => groups,
+        Sent::ToAgent(mail) => Freed::Group(agent_group(&mail.get().agent)),
+        Sent::Call | Sent::ToMaster(_) => Freed::Nobody,
     }
 }
 
-/// The groups of all agents to whom a mail was sent.
-fn groups_sent(sent: &[Sent]) -> u64
-    ensures { result ≡ groups_sent sent.now }
+/// Whom the call or the mail at an index frees.
+#[tactic(auto, using(crate::proofs::Groups::get_mapped))]
+fn sent_at(sent: &[Sent], index: usize) -> Option<Freed>
+    ensures { result ≡ slice_get (groups_sent sent.now) index }
 {
-    let mut groups = 0;
-    for one in sent {
-        groups = with_mail(groups, one);
+    let one = sent.get(index)?;
+    Some(freed_by_sent(one))
+}
+
+/// Whom the output at an index frees: the events are the first, then the streams that were closed
+/// and what was sent.
+#[tactic(auto, using(crate::proofs::Groups::get_left, crate::proofs::Groups::get_right))]
+fn output_at(outputs: &Outputs, index: usize) -> Option<Freed>
+    ensures { result ≡ slice_get (groups_output outputs.now) index }
+{
+    let (told, closed) = (outputs.events.as_slice(), outputs.closed.as_slice());
+    if index < told.len() {
+        return told_at(told, index);
     }
-    groups
+    let index = index - told.len();
+    if index < closed.len() {
+        return closed_at(closed, index);
+    }
+    sent_at(outputs.sent.as_slice(), index - closed.len())
 }
 
 fn stops_master(step: &Step) -> bool
@@ -152,25 +170,40 @@ fn lacks_memory(verdict: &Verdict) -> bool
 /// Whether a step ended a master or an agent: a master's streams close then,
 /// and the outputs don't name them.
 fn ends_a_part(entry: &Entry) -> bool
-    ensures { result ≡ (stops_master entry.now.step || lacks_memory entry.now.verdict) }
+    ensures { result ≡ ends_a_part entry.now }
 {
     stops_master(&entry.step) || lacks_memory(&entry.verdict)
 }
 
-/// The groups of those who wait for what a step output, a bit for each.
-pub fn groups_of(entry: &Entry) -> u64
-    ensures { result ≡ groups_of entry.now }
+/// Whom the output at an index frees, from 0 for the first of a step's; None behind the last.
+/// A step that ended a master or an agent frees everyone. It takes no memory.
+pub fn freed_at(entry: &Entry, index: usize) -> Option<Freed>
+    ensures { result ≡ slice_get (groups_of entry.now) index }
 {
-    if ends_a_part(entry) {
-        return u64::MAX;
+    if !ends_a_part(entry) {
+        return output_at(&entry.outputs, index);
     }
-    let outputs = &entry.outputs;
-    groups_told(outputs.events.as_slice())
-        | groups_closed(outputs.closed.as_slice())
-        | groups_sent(outputs.sent.as_slice())
+    match index {
+        0 => Some(Freed::Everyone),
+        _ => None,
+    }
 }
 
 /// Of all that was sent, each mail to an agent wakes the group of those who wait for mails to it.
 pub fn each_mail_wakes_its_agent()
-    ensures { (sent : List Sent) → WakesForEach (groups_sent sent) sent }
+    ensures { (e : Entry) → WakesForEach (groups_of e) e.outputs.sent }
+{}
+
+/// Each event wakes the group of those who wait on its stream, and so does the end of a stream.
+pub fn each_event_wakes_its_stream()
+    ensures told { (e : Entry)
+        → All (λ event. IsAmong (groups_of e) (stream_group event.stream)) e.outputs.events }
+    ensures closed { (e : Entry)
+        → All (λ stream. IsAmong (groups_of e) (stream_group stream)) e.outputs.closed }
+{}
+
+/// An entry without outputs wakes nobody, unless its step ended a master or an agent.
+pub fn no_output_wakes_nobody()
+    ensures { (e : Entry) → ends_a_part e ≡ false → e.outputs.events ≡ [] → e.outputs.closed ≡ []
+        → e.outputs.sent ≡ [] → groups_of e ≡ [] }
 {}

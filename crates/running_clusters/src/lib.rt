@@ -5,12 +5,17 @@
 mod awaited;
 mod given;
 mod kept_entry;
+mod open_offer;
 mod running;
 
 pub use agent_core::Record;
-pub use awaited::{Awaited, each_mail_wakes_its_agent, groups_of};
+pub use awaited::{
+    Awaited, each_event_wakes_its_stream, each_mail_wakes_its_agent, freed_at,
+    no_output_wakes_nobody,
+};
 pub use cluster_entries::Entry;
 pub use cluster_steps::{ClusterFault, Keep, Step, StepCause};
 pub use given::Given;
 pub use kept_entry::KeptEntry;
+pub use open_offer::OpenOffer;
 pub use running::Running;

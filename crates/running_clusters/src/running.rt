@@ -1,6 +1,6 @@
 //! A cluster that runs, as a desk records it.
 
-ghost use Rattle.std.specs.Prelude.{◌≡◌, ℕ, Bool, List, Option, option_map};
+ghost use Rattle.std.specs.Prelude.{◌≡◌, ℕ, Bool, List, Option, option_map, IfOk};
 ghost use Rattle.cluster_entries.specs.declared.entry.Entry.{Entry};
 ghost use Rattle.cluster_steps.specs.declared.fault.ClusterFault.{ClusterFault};
 ghost use Rattle.cluster_steps.specs.declared.step.Step.{Step};
@@ -11,14 +11,17 @@ ghost use Rattle.desk_seats.specs.declared.fault.OfficeFault.{OfficeFault};
 ghost use Rattle.desk_seats.specs.Found.{IsRefusedCall};
 ghost use Rattle.desk_seats.specs.Receipts.{IsTaken, PassState};
 ghost use Rattle.running_clusters.specs.declared.given.Given as given;
+ghost use Rattle.running_clusters.specs.declared.open_offer.OpenOffer as open_offer;
 
 use crate::awaited::Awaited;
 use crate::given::Given;
 use crate::kept_entry::KeptEntry;
+use crate::open_offer::OpenOffer;
 use agent_core::Record;
 use cluster_steps::{ClusterFault, Step};
 use desk_seats::Recorded;
 use names_core::{AgentName, StreamId};
+use std::alloc::{AllocError, Global};
 
 /// A cluster that runs. An agent's thread, the ticker and connections use it by this trait alone.
 pub trait Running: Recorded<
@@ -52,6 +55,10 @@ pub trait Running: Recorded<
     /// None for one that was never opened.
     ghost stream_of: { Self → Numbered → Option (ℕ × Bool) };
 
+    /// The current offers of the master that serves, each with its framework and that framework's
+    /// open stream; none while no master serves.
+    ghost offers_of: { Self → List open_offer.OpenOffer };
+
     /// The record of an agent; None where no such agent is configured.
     fn durable(&self, agent: &AgentName) -> Option<&Record>
         ensures { option_map (λ d. d.now) result ≡ record_of self.now agent.now };
@@ -72,6 +79,10 @@ pub trait Running: Recorded<
     /// master serves. None for a stream that was never opened.
     fn stream(&self, stream: StreamId) -> Option<(usize, bool)>
         ensures { result ≡ stream_of self.now stream };
+
+    /// The current offers, agent by agent, those of an agent in order of their making.
+    fn open_offers(&self, alloc: Global) -> Result<Vec<OpenOffer>, AllocError>
+        ensures { IfOk result (λ offers. offers.items ≡ offers_of self.now) };
 
     /// The step of an entry is the one that was requested.
     ghost asks_its_step: { (entry : Entry) → Self.step_of entry ≡ entry.step };

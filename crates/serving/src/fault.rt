@@ -12,7 +12,7 @@ use std::fmt;
 /// What was answered by then stays valid.
 #[derive(Drop)]
 pub enum ServingFault {
-    /// An agent's record couldn't be kept.
+    /// An agent's record couldn't be kept: never where the pace is to keep serving.
     Agent {
         agent: AgentName,
         fault: ActivityFault<KeepFault>,

@@ -273,10 +273,10 @@ fn print_once<T, R: Eprint>(rt: &R, ending: &Ending, served: &Result<T, ServingF
 /// Runs a cluster of agents whose records are kept in files, until so many connections as its pace
 /// says have come and ended, and returns its whole history, with the seat of each entry. Each
 /// connection has a seat, as has each agent and the master's time. Where an agent's record can't be
-/// kept any more, where memory or a thread is refused, or where it has as much memory as it may have,
-/// it ends too: the fault, which says why, is
-/// printed on standard error at once, streams and connections that wait for their clients are
-/// ended, and what is being answered is answered.
+/// kept any more or where memory or a thread is refused, unless its pace is to keep serving, or where
+/// it has as much memory as it may have, it ends too: the fault, which says why, is printed on
+/// standard error at once, streams and connections that wait for their clients are ended, and what
+/// is being answered is answered.
 pub fn serve_cluster<
     D: Running + Send + Sync,
     L: ledger::Ledger + Send + Sync,

@@ -1,10 +1,11 @@
 //! The threads of a cluster's agents and of its master's time.
 
-ghost use Rattle.std.specs.Prelude.{◌≡◌, [], IfOk};
+ghost use Rattle.std.specs.Prelude.{◌≡◌, [], None, true, if◌then◌else◌, IfOk};
+ghost use Rattle.activities.specs.declared.fault.CabinetFailures.TheVariants.{Borne, Fatal};
 
 use crate::fault::ServingFault;
 use crate::memory::{MemoryLimit, keep_within};
-use activities::{ActivityFault, Stopwatch, activity, ticker};
+use activities::{ActivityFault, CabinetFailures, Stopwatch, activity, decliner, ticker};
 use desk_lock::{Office, Pass};
 use http_workers::HttpFault;
 use keep_store::KeepFault;
@@ -25,6 +26,9 @@ pub struct Pace {
     /// So many seconds lie between two rounds of offers: 1 or more,
     /// since at 0 rounds follow without a pause.
     pub interval: u64,
+    /// An offer that was left unanswered for so many seconds, any number, is declined for as many;
+    /// with 0 none is.
+    pub offer_seconds: u32,
     /// So many seconds a task runs, any number; with 0 until it is killed.
     pub task_seconds: u64,
     /// So many connections are taken, any number; with 0 there is no limit.
@@ -35,7 +39,8 @@ pub struct Pace {
     /// So many connections are served at once, and a quarter of them are kept for those that are no
     /// streams; with 0 it is 64, and none is kept.
     pub workers: u32,
-    /// Whether the server goes on where memory or a thread is refused for a connection.
+    /// Whether the server goes on where memory or a thread is refused for a connection, or where an
+    /// agent's store fails.
     pub keep_serving: bool,
 }
 
@@ -73,8 +78,19 @@ pub(crate) struct Leaver<L: ledger::Ledger> {
     pub fault: Option<ServingFault>,
 }
 
-/// An agent's activity over its store. That its saves fail, and that they succeed again, is told on
-/// standard error.
+/// What it is to an agent's activity that its store can't be opened again.
+fn failures_under(pace: Pace) -> CabinetFailures
+    ensures { result ≡ (if pace.keep_serving then Borne else Fatal) }
+{
+    if pace.keep_serving {
+        CabinetFailures::Borne
+    } else {
+        CabinetFailures::Fatal
+    }
+}
+
+/// An agent's activity over its store. That its record can't be saved, and that it is saved again,
+/// is told on standard error.
 fn keep_agent<'a, D: Running, L: ledger::Ledger, R: Wait + Clock + Eprint>(
     rt: &'a R,
     alloc: Global,
@@ -83,11 +99,11 @@ fn keep_agent<'a, D: Running, L: ledger::Ledger, R: Wait + Clock + Eprint>(
     agent: &'a AgentName,
     total: &Resources,
     cabinet: FileCabinet<'a>,
-    task_seconds: u64,
+    pace: Pace,
 ) -> (Pass<KeptEntry, L>, Option<ActivityFault<KeepFault>>)
     requires { pass.receipts ≡ [] }
 {
-    let mut cabinet = TellingCabinet::new(agent, cabinet);
+    let mut cabinet = TellingCabinet::new(agent, cabinet, pace.keep_serving);
     activity(
         rt,
         alloc,
@@ -95,12 +111,14 @@ fn keep_agent<'a, D: Running, L: ledger::Ledger, R: Wait + Clock + Eprint>(
         pass,
         agent,
         &mut cabinet,
-        task_seconds,
+        failures_under(pace),
+        pace.task_seconds,
         total,
     )
 }
 
-/// An agent's activity, which holds its store until it ends. A fault that ends it ends the server.
+/// An agent's activity, which holds its store until it ends. A fault that ends it is told on standard
+/// error, and ends the server unless that is to keep serving.
 fn keep_going<
     D: Running,
     L: ledger::Ledger,
@@ -112,25 +130,21 @@ fn keep_going<
     pass: Pass<KeptEntry, L>,
     file: RecordFile<'_>,
     entrance: Entrance<'_>,
-    task_seconds: u64,
+    pace: Pace,
 ) -> Leaver<L>
     requires { pass.receipts ≡ [] }
+    ensures { pace.keep_serving ≡ true → result.fault ≡ None }
 {
     let (agent, total, cabinet) = file.into_cabinet();
-    let (pass, fault) = keep_agent(
-        rt,
-        alloc,
-        office,
-        pass,
-        &agent,
-        &total,
-        cabinet,
-        task_seconds,
-    );
+    let (pass, fault) = keep_agent(rt, alloc, office, pass, &agent, &total, cabinet, pace);
     let Some(fault) = fault else {
         return Leaver { pass, fault: None };
     };
     let fault = ServingFault::Agent { agent, fault };
+    if pace.keep_serving {
+        let _ = eprintln!(rt; "{fault}, which is down from now on");
+        return Leaver { pass, fault: None };
+    }
     entrance.close(rt, &fault);
     Leaver {
         pass,
@@ -149,6 +163,21 @@ fn keep_time<D: Running, L: ledger::Ledger, R: Wait + Clock>(
     let mut seconds = Stopwatch::new(rt);
     Leaver {
         pass: ticker(rt, alloc, office, pass, &mut seconds, interval),
+        fault: None,
+    }
+}
+
+/// The answers to offers that frameworks leave unanswered.
+fn keep_declining<D: Running, L: ledger::Ledger, R: Wait + Clock>(
+    rt: &R,
+    alloc: Global,
+    office: &Office<D, L>,
+    pass: Pass<KeptEntry, L>,
+    offer_seconds: u32,
+) -> Leaver<L> {
+    let mut clock = Stopwatch::new(rt);
+    Leaver {
+        pass: decliner(rt, alloc, office, pass, &mut clock, offer_seconds),
         fault: None,
     }
 }
@@ -211,8 +240,7 @@ fn start_agent<
     pace: Pace,
 ) -> Result<JoinHandle<Leaver<L>>, ServingFault> {
     let pass = seated(rt, alloc, office)?;
-    let seconds = pace.task_seconds;
-    started(scope.spawn(move || keep_going(rt, alloc, office, pass, file, entrance, seconds)))
+    started(scope.spawn(move || keep_going(rt, alloc, office, pass, file, entrance, pace)))
 }
 
 /// Starts the thread of the master's time.
@@ -232,6 +260,32 @@ fn start_ticker<
     let pass = seated(rt, alloc, office)?;
     let interval = pace.interval;
     started(scope.spawn(move || keep_time(rt, alloc, office, pass, interval)))
+}
+
+/// Starts the thread that declines offers which are left unanswered, where any is declined.
+fn start_decliner<
+    's,
+    E,
+    D: Running + Send + Sync + 's,
+    L: ledger::Ledger + Send + Sync + 's,
+    R: Threads + Wait + Clock + Sync + 's,
+>(
+    scope: &Scope<'s, E>,
+    rt: &'s R,
+    alloc: Global,
+    office: &'s Office<D, L>,
+    pace: Pace,
+    threads: &mut Vec<JoinHandle<Leaver<L>>>,
+) -> Result<(), ServingFault> {
+    let seconds = pace.offer_seconds;
+    if seconds == 0 {
+        return Ok(());
+    }
+    make_room(threads, 1)?;
+    let pass = seated(rt, alloc, office)?;
+    let thread = scope.spawn(move || keep_declining(rt, alloc, office, pass, seconds));
+    keep(threads, started(thread)?);
+    Ok(())
 }
 
 /// Starts the thread that looks how much memory there is, where it is limited.
@@ -296,7 +350,8 @@ fn start_agents<
     Ok(())
 }
 
-/// Starts the threads of all agents, of the master's time, and of the limit on memory.
+/// Starts the threads of all agents, of the master's time, of offers that are left unanswered, and
+/// of the limit on memory.
 /// Those that run when one is refused are among the threads too.
 pub(crate) fn start_all<
     's,
@@ -324,5 +379,6 @@ pub(crate) fn start_all<
     start_agents(scope, rt, alloc, office, files, entrance, pace, threads)?;
     make_room(threads, 1)?;
     keep(threads, start_ticker(scope, rt, alloc, office, pace)?);
+    start_decliner(scope, rt, alloc, office, pace, threads)?;
     start_memory(scope, rt, alloc, office, entrance, threads)
 }

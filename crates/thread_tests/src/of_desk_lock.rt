@@ -1,11 +1,12 @@
-ghost use Rattle.std.specs.Prelude.{◌≡◌, ◌≤◌, [], ⊤, length, vec_len, refl};
+ghost use Rattle.std.specs.Prelude.{◌≡◌, ◌≤◌, ◌∷◌, [], ⊤, length, vec_len, refl};
+ghost use Rattle.desk_seats.specs.declared.recorded.Freed.TheVariants.{Group};
 
 use desk_lock::{
-    Desk, Entered, FaultKind, Office, OfficeFault, Pass, Passes, Recorded, Turn, Waited,
+    Desk, Entered, FaultKind, Freed, Office, OfficeFault, Pass, Passes, Recorded, Turn, Waited,
 };
 use std::alloc::Global;
 use std::marker::Brand;
-use std::sync::atomic::{AtomicBool, Ordering};
+use std::sync::atomic::{AtomicBool, AtomicU64, Ordering};
 use std::sync::ledger::Blank;
 use std::sync::{Wait, ledger};
 use std::thread;
@@ -18,9 +19,8 @@ const PARTS: u64 = 1 << 32;
 /// The group of those who wait for a sum.
 const SUMS: u32 = 5;
 
-/// What they wait for.
-#[derive(Drop)]
-struct Sum;
+/// A group for which no sum is.
+const OTHERS: u32 = 6;
 
 /// A number that was added, and the sum with it.
 #[derive(Clone, Copy, Drop)]
@@ -58,7 +58,8 @@ impl Recorded for Adder {
 
     type Fault = FaultKind;
 
-    type Awaited = Sum;
+    /// A group.
+    type Awaited = u32;
 
     ghost history = { λ a. a.history.items };
 
@@ -73,6 +74,10 @@ impl Recorded for Adder {
     ghost may_refuse = { λ _ _ _. ⊤ };
 
     ghost alike = { λ one other. one.history.items ≡ other.history.items };
+
+    ghost waits_in = { λ group. group };
+
+    ghost frees = { λ _. Group 5 ∷ [] };
 
     fn step(&mut self, _alloc: Global, step: u32) -> Result<Entered<Added, u64>, FaultKind> {
         if self.history.len() >= 4_294_967_294 {
@@ -119,12 +124,15 @@ impl Recorded for Adder {
         FaultKind::OutOfMemory
     }
 
-    fn group_of(_awaited: &Sum) -> u32 {
-        SUMS
+    fn group_of(awaited: &u32) -> u32 {
+        *awaited
     }
 
-    fn frees(_entry: &Added) -> u64 {
-        1 << SUMS
+    fn freed_at(_entry: &Added, index: usize) -> Option<Freed> {
+        match index {
+            0 => Some(Freed::Group(SUMS)),
+            _ => None,
+        }
     }
 
     fn is_sound(&self) {
@@ -237,7 +245,7 @@ fn wait_and_add<L: ledger::Ledger, R: Wait>(
             Turn::Answer
         }
     };
-    let answered = office.wait_call(rt, alloc, &mut pass, Sum, look, 1);
+    let answered = office.wait_call(rt, alloc, &mut pass, SUMS, look, 1);
     (pass, matches!(answered, Ok(Some(_))))
 }
 
@@ -273,7 +281,7 @@ fn sum_above<L: ledger::Ledger, R: Wait + Clock>(
     pass: &Pass<Added, L>,
     least: u64,
 ) -> Result<Waited<u64>, OfficeFault<FaultKind>> {
-    office.wait_for(rt, pass, Sum, Duration::ZERO, |adder: &Adder| {
+    office.wait_for(rt, pass, SUMS, Duration::ZERO, |adder: &Adder| {
         if adder.sum > least {
             Ok(Some(adder.sum))
         } else {
@@ -352,6 +360,93 @@ pub fn a_waiting_call<R: Threads + Wait + Clock + Sync>(rt: &R, alloc: Global) -
     waiting::<Brand, _>(rt, alloc, Blank::new(PARTS))
 }
 
+/// Waits among the others until the office is finished, and counts how often it looks.
+fn wait_with_others<L: ledger::Ledger, R: Wait>(
+    rt: &R,
+    alloc: Global,
+    office: &Office<Adder, L>,
+    mut pass: Pass<Added, L>,
+    looks: &AtomicU64,
+) -> (Pass<Added, L>, bool) {
+    let look = |_: &Adder| {
+        looks.fetch_add(1, Ordering::SeqCst);
+        Turn::Wait
+    };
+    let answered = office.wait_call(rt, alloc, &mut pass, OTHERS, look, 1);
+    (pass, matches!(answered, Ok(None)))
+}
+
+/// Whether somebody has looked, within 1,000,000 turns of 100 microseconds.
+fn has_looked<R: Clock>(rt: &R, looks: &AtomicU64) -> bool {
+    for _ in 0..1_000_000u32 {
+        if looks.load(Ordering::SeqCst) > 0 {
+            return true;
+        }
+        thread::sleep(rt, Duration::from_micros(100));
+    }
+    false
+}
+
+/// Adds 1 a hundred times once the other has looked, and finishes the office.
+fn add_often<L: ledger::Ledger, R: Wait + Clock>(
+    rt: &R,
+    alloc: Global,
+    office: &Office<Adder, L>,
+    mut pass: Pass<Added, L>,
+    looks: &AtomicU64,
+) -> (Pass<Added, L>, bool) {
+    let mut added = has_looked(rt, looks);
+    for _ in 0..100u32 {
+        let answered = office.call(rt, alloc, &mut pass, 1);
+        added = added && answered.is_ok();
+    }
+    office.finish(rt);
+    (pass, added)
+}
+
+/// The passes of two seats, and whether one slept while the other added.
+fn slept<L: ledger::Ledger + Send + Sync, R: Threads + Wait + Clock + Sync>(
+    rt: &R,
+    alloc: Global,
+    office: &Office<Adder, L>,
+    one: Pass<Added, L>,
+    two: Pass<Added, L>,
+) -> (Pass<Added, L>, Pass<Added, L>, bool) {
+    let looks = AtomicU64::new(0);
+    let ((one, ended), (two, added)) = thread::join(
+        rt,
+        || wait_with_others(rt, alloc, office, one, &looks),
+        || add_often(rt, alloc, office, two, &looks),
+    );
+    let slept = looks.load(Ordering::SeqCst) == 1;
+    (one, two, ended && added && slept)
+}
+
+fn sleeping<L: ledger::Ledger + Send + Sync, R: Threads + Wait + Clock + Sync>(
+    rt: &R,
+    alloc: Global,
+    blank: Blank,
+) -> bool
+    requires name { blank.name ≡ L.name }
+    requires parts { (blank.parts ≡ L.parts) × (blank.parts ≡ 4294967296) }
+{
+    let office: Office<Adder, L> = Office::new(Desk::new(alloc, Adder::new(alloc), blank));
+    match two_seats(rt, alloc, &office) {
+        Some((one, two)) => {
+            let (one, two, slept) = slept(rt, alloc, &office, one, two);
+            let closed = close_two(alloc, office, one, two) == Some(101);
+            slept && closed
+        }
+        None => false,
+    }
+}
+
+/// Who waits in a group that no step frees isn't woken by the steps, and is once the office is
+/// finished.
+pub fn a_call_in_another_group<R: Threads + Wait + Clock + Sync>(rt: &R, alloc: Global) -> bool {
+    sleeping::<Brand, _>(rt, alloc, Blank::new(PARTS))
+}
+
 /// Refuses each step by a fault of the kind that the step names.
 #[derive(Drop)]
 struct Refuser;
@@ -380,6 +475,10 @@ impl Recorded for Refuser {
     ghost may_refuse = { λ _ step fault. fault ≡ step };
 
     ghost alike = { λ _ _. ⊤ };
+
+    ghost waits_in = { λ _. 0 };
+
+    ghost frees = { λ _. [] };
 
     fn step(
         &mut self,
@@ -413,8 +512,8 @@ impl Recorded for Refuser {
         0
     }
 
-    fn frees(_entry: &FaultKind) -> u64 {
-        0
+    fn freed_at(_entry: &FaultKind, _index: usize) -> Option<Freed> {
+        None
     }
 
     fn is_sound(&self) {}

@@ -1,12 +1,15 @@
 //! What is read of a cluster beside its history.
 
-ghost use Rattle.std.specs.Prelude.{◌≡◌, ◌≤◌, length, IfNone, IfSome};
+ghost use Rattle.std.specs.Prelude.{◌≡◌, ◌≤◌, length, option_map, IfNone, IfSome};
 ghost use Rattle.cluster_core.specs.Reading.{IsNextFrom, IsNextTo, NoneFrom, NoneTo, is_open_in, stream_in, waiting_in};
 ghost use Rattle.cluster_core.specs.Stories.{state_of};
+ghost use Rattle.cluster_histories.specs.Clusters.{master_of};
+ghost use Rattle.cluster_parts.specs.Masters.{kept_master};
 
 use crate::advancing::place_in;
 use crate::cluster::Cluster;
 use cluster_laws::{agents_keep_their_names, items_are_posts};
+use master_core::Master;
 use names_core::{AgentName, StreamId};
 use post_rules::{Direction, Post, Queues};
 
@@ -33,6 +36,17 @@ impl<P: Post + Drop> Cluster<P> {
     {
         match self.waiting_on(stream) {
             Some(waiting) => Some((waiting, self.is_open(stream))),
+            None => None,
+        }
+    }
+
+    /// The master; None where none serves.
+    pub fn master(&self) -> Option<&Master>
+        ensures { option_map (λ m. m.now) result
+            ≡ kept_master (master_of (state_of self.now.story)) }
+    {
+        match &self.parts.served.master {
+            Some(master) => Some(master),
             None => None,
         }
     }
