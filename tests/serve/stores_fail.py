@@ -12,8 +12,8 @@ from cluster import Folder, Framework, Server, amounts, check
 BEGUN, OVER = "agent a1 can't be saved, and is tried again each second: K1 Store ", "agent a1 is saved again\n"
 DAMAGED = "K2 Damaged: the record of a1, which is down from now on\n"
 AGENTS = {"a1": {"cpus": 8}, "a2": {"cpus": 3}}
-# So many bytes at least the one agent's log has to be longer than the other's.
-AHEAD = 200_000
+# A log grows by so many bytes at once, before they are written, and ends less than three such pieces behind what was written last.
+PIECE = 131_072
 
 
 class Cluster:
@@ -68,10 +68,10 @@ class Cluster:
         resource.prlimit(self.server.process.pid, resource.RLIMIT_FSIZE, (size, resource.RLIM_INFINITY))
 
     def limit_to_first(self):
-        """No log gets longer than the first agent's, to which nothing more can be added so."""
+        """No log is written further than the first agent's was, to which nothing can be added so; the other's is shorter by far."""
         first, second = self.log_sizes()
-        check(first > second + AHEAD, f"the logs have {first} and {second} bytes")
-        self.limit(first)
+        check(first - 3 * PIECE >= second, f"the logs have {first} and {second} bytes")
+        self.limit(first - 3 * PIECE)
 
 
 def lengthen(cluster):
