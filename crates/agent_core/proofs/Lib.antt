@@ -3,3 +3,4 @@ pub mod Places
 pub mod Recorded
 mod Runs
 pub mod Taking
+mod States

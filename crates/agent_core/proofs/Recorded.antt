@@ -16,13 +16,13 @@ use Rattle.quantity.specs.Rows.{amount, covers}
 use Rattle.quantity.specs.Laws.{AmountsAddUp, CoversIsAtLeast}
 use Rattle.stream_core.specs.Updates as updates
 use Rattle.stream_core.specs.Updates.{are_updates, is_done}
-use Rattle.mails.specs.declared.mail.Command.{Command}
-use Rattle.mails.specs.declared.mail.Command.TheVariants.{Launch, Kill, Ack, EndFramework}
-use Rattle.mails.specs.declared.record.Durable.{Durable}
-use Rattle.mails.specs.declared.record.RecordedTask.{RecordedTask}
-use Rattle.mails.specs.declared.task.Job.{Job}
+use Rattle.messages.specs.declared.mail.Command.{Command}
+use Rattle.messages.specs.declared.mail.Command.TheVariants.{Launch, Kill, Ack, EndFramework}
+use Rattle.messages.specs.declared.record.RecordParts.{RecordParts}
+use Rattle.messages.specs.declared.record.RecordedTask.{RecordedTask}
+use Rattle.messages.specs.declared.task.Job.{Job}
 use Rattle.cluster_model.specs.Agents.{Agent, acknowledged, has_ended, has_room, is_task, launched_task, live_tasks, put_task, stated, task_rows, tasks_after, with_session}
-use Rattle.recorded_tasks.specs.Room.{Leaves}
+use Rattle.agent_core.specs.Room.{Leaves}
 use Rattle.agent_core.proofs.Places.{before_both, not_both_ways, placed}
 use Rattle.agent_core.specs.Records.{HasRoom, has_begun, is_behind, is_record, keys_rise, none_is_done, rise_behind, with_other_tasks}
 
@@ -187,44 +187,44 @@ acknowledged_keeps key k t = cond_both (is_task key t && updates.is_front k t.up
 -- records
 
 -- what is_record says
-record Parts (d : Durable) : Type 0 where
+record Parts (d : RecordParts) : Type 0 where
   rise : keys_rise d.tasks ≡ true
   not_done : none_is_done d.tasks ≡ true
   begun : has_begun d ≡ true
   fit : covers d.total (task_rows (live_tasks d.tasks)) ≡ true
 
-parts_of : (d : Durable) → is_record d ≡ true → Parts d
+parts_of : (d : RecordParts) → is_record d ≡ true → Parts d
 parts_of d h =
     let fits = and_parts (keys_rise d.tasks && none_is_done d.tasks && has_begun d) (covers d.total (task_rows (live_tasks d.tasks))) h in
     let begun = and_parts (keys_rise d.tasks && none_is_done d.tasks) (has_begun d) fits.0 in
     let rise = and_parts (keys_rise d.tasks) (none_is_done d.tasks) begun.0 in
     record { rise = rise.0; not_done = rise.1; begun = begun.1; fit = fits.1 }
 
-record_from : (d : Durable) → keys_rise d.tasks ≡ true → none_is_done d.tasks ≡ true → has_begun d ≡ true → covers d.total (task_rows (live_tasks d.tasks)) ≡ true → is_record d ≡ true
+record_from : (d : RecordParts) → keys_rise d.tasks ≡ true → none_is_done d.tasks ≡ true → has_begun d ≡ true → covers d.total (task_rows (live_tasks d.tasks)) ≡ true → is_record d ≡ true
 record_from d rise not_done begun fit = and_from (keys_rise d.tasks && none_is_done d.tasks && has_begun d) (covers d.total (task_rows (live_tasks d.tasks))) (and_from (keys_rise d.tasks && none_is_done d.tasks) (has_begun d) (and_from (keys_rise d.tasks) (none_is_done d.tasks) rise not_done) begun) fit
 
-begun_above : (d : Durable) → 0 < d.run → has_begun d ≡ true
+begun_above : (d : RecordParts) → 0 < d.run → has_begun d ≡ true
 begun_above d h = let e : eqb d.run 0 ≡ false = grind (arith, nat_tests) in rw e refl
 
-begun_mapped : (d : Durable) (change : RecordedTask → RecordedTask) → has_begun d ≡ true → has_begun (with_other_tasks d (map change d.tasks)) ≡ true
+begun_mapped : (d : RecordParts) (change : RecordedTask → RecordedTask) → has_begun d ≡ true → has_begun (with_other_tasks d (map change d.tasks)) ≡ true
 begun_mapped d change h = rw (length-map d.tasks change) h
 
-pub none_done : (d : Durable) → is_record d ≡ true → none_is_done d.tasks ≡ true
+pub none_done : (d : RecordParts) → is_record d ≡ true → none_is_done d.tasks ≡ true
 none_done d h = (parts_of d h).not_done
 
-pub session_recorded : (d : Durable) (session run : ℕ) → is_record d ≡ true → 0 < run → is_record (with_session d session run) ≡ true
+pub session_recorded : (d : RecordParts) (session run : ℕ) → is_record d ≡ true → 0 < run → is_record (with_session d session run) ≡ true
 session_recorded d session run h above =
     let p = parts_of d h in
     record_from (with_session d session run) p.rise p.not_done (begun_above (with_session d session run) above) p.fit
 
 -- a total that covers what the agent owns has room for all that had room
-pub owning_recorded : (total : List Row) (d : Durable) → CoversIsAtLeast → covers total d.total ≡ true → is_record d ≡ true → is_record (record { name = d.name; total = total; session = d.session; run = d.run; tasks = d.tasks }) ≡ true
+pub owning_recorded : (total : List Row) (d : RecordParts) → CoversIsAtLeast → covers total d.total ≡ true → is_record d ≡ true → is_record (record { name = d.name; total = total; session = d.session; run = d.run; tasks = d.tasks }) ≡ true
 owning_recorded total d covering more h =
     let p = parts_of d h in
     record_from (record { name = d.name; total = total; session = d.session; run = d.run; tasks = d.tasks }) p.rise p.not_done p.begun
     ((covering total (task_rows (live_tasks d.tasks))).1 (λ name. let least = (covering d.total (task_rows (live_tasks d.tasks))).0 p.fit name in let owned = (covering total d.total).0 more name in omega (arith, least, owned)))
 
-pub stated_recorded : (d : Durable) (key : Numbered) (state : TaskState) → AmountsAddUp → CoversIsAtLeast → Each (λ t. are_updates t.updates.states t.updates.acknowledged ≡ true) d.tasks → is_record d ≡ true → is_record (with_other_tasks d (map (stated key state) d.tasks)) ≡ true
+pub stated_recorded : (d : RecordParts) (key : Numbered) (state : TaskState) → AmountsAddUp → CoversIsAtLeast → Each (λ t. are_updates t.updates.states t.updates.acknowledged ≡ true) d.tasks → is_record d ≡ true → is_record (with_other_tasks d (map (stated key state) d.tasks)) ≡ true
 stated_recorded d key state sums covering each h =
     let p = parts_of d h in
     record_from (with_other_tasks d (map (stated key state) d.tasks))
@@ -233,7 +233,7 @@ stated_recorded d key state sums covering each h =
     (begun_mapped d (stated key state) p.begun)
     (covers_less d.total d.tasks (map (stated key state) d.tasks) covering p.fit (λ name. held_mapped name (stated key state) d.tasks sums (stated_keeps key state)))
 
-acknowledged_recorded : (d : Durable) (key : Numbered) (k : ℕ) → AmountsAddUp → CoversIsAtLeast → is_record d ≡ true → 0 < d.run → is_record (with_other_tasks d (tasks_after (Ack key k) d.tasks)) ≡ true
+acknowledged_recorded : (d : RecordParts) (key : Numbered) (k : ℕ) → AmountsAddUp → CoversIsAtLeast → is_record d ≡ true → 0 < d.run → is_record (with_other_tasks d (tasks_after (Ack key k) d.tasks)) ≡ true
 acknowledged_recorded d key k sums covering h above =
     let p = parts_of d h in
     record_from (with_other_tasks d (tasks_after (Ack key k) d.tasks))
@@ -242,7 +242,7 @@ acknowledged_recorded d key k sums covering h above =
     (begun_above (with_other_tasks d (tasks_after (Ack key k) d.tasks)) above)
     (covers_less d.total d.tasks (tasks_after (Ack key k) d.tasks) covering p.fit (λ name. let kept = held_kept name (λ t. not (is_done t.updates)) (map (acknowledged key k) d.tasks) sums in let mapped = held_mapped name (acknowledged key k) d.tasks sums (acknowledged_keeps key k) in omega (arith, kept, mapped)))
 
-kept_recorded : (d : Durable) (test : RecordedTask → Bool) → AmountsAddUp → CoversIsAtLeast → is_record d ≡ true → 0 < d.run → is_record (with_other_tasks d (filter test d.tasks)) ≡ true
+kept_recorded : (d : RecordParts) (test : RecordedTask → Bool) → AmountsAddUp → CoversIsAtLeast → is_record d ≡ true → 0 < d.run → is_record (with_other_tasks d (filter test d.tasks)) ≡ true
 kept_recorded d test sums covering h above =
     let p = parts_of d h in
     record_from (with_other_tasks d (filter test d.tasks))
@@ -256,7 +256,7 @@ not_done_put t ts e h =
     rw (list_all-append (λ u. not (is_done u.updates)) (filter (λ u. before u.job.key t.job.key) ts) (t ∷ filter (λ u. before t.job.key u.job.key) ts), kept_pass (λ u. not (is_done u.updates)) (λ u. before u.job.key t.job.key) ts h)
     (and_from (not (is_done t.updates)) (none_is_done (filter (λ u. before t.job.key u.job.key) ts)) e (kept_pass (λ u. not (is_done u.updates)) (λ u. before t.job.key u.job.key) ts h))
 
-launched_recorded : (d : Durable) (job : Job) (offers : List Numbered) → AmountsAddUp → CoversIsAtLeast → is_record d ≡ true → 0 < d.run → covers d.total (job.resources ++ task_rows (live_tasks d.tasks)) ≡ true → is_record (with_other_tasks d (put_task (launched_task job offers) d.tasks)) ≡ true
+launched_recorded : (d : RecordParts) (job : Job) (offers : List Numbered) → AmountsAddUp → CoversIsAtLeast → is_record d ≡ true → 0 < d.run → covers d.total (job.resources ++ task_rows (live_tasks d.tasks)) ≡ true → is_record (with_other_tasks d (put_task (launched_task job offers) d.tasks)) ≡ true
 launched_recorded d job offers sums covering h above room =
     let p = parts_of d h in
     let after = put_task (launched_task job offers) d.tasks in
@@ -273,7 +273,7 @@ command_recorded a (Ack key k) sums covering each h above room = acknowledged_re
 command_recorded a (EndFramework framework) sums covering each h above room = kept_recorded a.durable (λ t. not (same t.job.framework framework)) sums covering h above
 
 -- a new task stands behind those before it, where the record has none of its key
-pub launched_placed : (d : Durable) (job : Job) (offers : List Numbered) → is_record d ≡ true → not (list_any (is_task job.key) d.tasks) ≡ true →
+pub launched_placed : (d : RecordParts) (job : Job) (offers : List Numbered) → is_record d ≡ true → not (list_any (is_task job.key) d.tasks) ≡ true →
     insert d.tasks (length (take_while (λ t. before t.job.key job.key) d.tasks)) (launched_task job offers) ≡ put_task (launched_task job offers) d.tasks
 launched_placed d job offers h new = placed (launched_task job offers) d.tasks (parts_of d h).rise new
 
@@ -290,19 +290,19 @@ command_rises (EndFramework framework) ts h = rise_kept (λ t. not (same t.job.f
 
 -- what is left
 
-pub launched_leaves : (d : Durable) (job : Job) (offers : List Numbered) (room : List Row) → AmountsAddUp → Leaves room (job.resources ++ task_rows (live_tasks d.tasks)) d.total → HasRoom room (with_other_tasks d (put_task (launched_task job offers) d.tasks))
+pub launched_leaves : (d : RecordParts) (job : Job) (offers : List Numbered) (room : List Row) → AmountsAddUp → Leaves room (job.resources ++ task_rows (live_tasks d.tasks)) d.total → HasRoom room (with_other_tasks d (put_task (launched_task job offers) d.tasks))
 launched_leaves d job offers room sums left name = omega (arith, left name, sums name job.resources (task_rows (live_tasks d.tasks)), held_put name (launched_task job offers) d.tasks sums refl)
 
-pub stated_leaves : (d : Durable) (key : Numbered) (state : TaskState) (room : List Row) → AmountsAddUp → HasRoom room d → HasRoom room (with_other_tasks d (map (stated key state) d.tasks))
+pub stated_leaves : (d : RecordParts) (key : Numbered) (state : TaskState) (room : List Row) → AmountsAddUp → HasRoom room d → HasRoom room (with_other_tasks d (map (stated key state) d.tasks))
 stated_leaves d key state room sums left name = omega (arith, left name, held_mapped name (stated key state) d.tasks sums (stated_keeps key state))
 
-pub acknowledged_leaves : (d : Durable) (key : Numbered) (k : ℕ) (room : List Row) → AmountsAddUp → HasRoom room d → HasRoom room (with_other_tasks d (tasks_after (Ack key k) d.tasks))
+pub acknowledged_leaves : (d : RecordParts) (key : Numbered) (k : ℕ) (room : List Row) → AmountsAddUp → HasRoom room d → HasRoom room (with_other_tasks d (tasks_after (Ack key k) d.tasks))
 acknowledged_leaves d key k room sums left name =
     let kept = held_kept name (λ t. not (is_done t.updates)) (map (acknowledged key k) d.tasks) sums in
     let mapped = held_mapped name (acknowledged key k) d.tasks sums (acknowledged_keeps key k) in
     omega (arith, left name, kept, mapped)
 
-pub ended_leaves : (d : Durable) (framework : Numbered) (room : List Row) → AmountsAddUp → HasRoom room d → HasRoom room (with_other_tasks d (tasks_after (EndFramework framework) d.tasks))
+pub ended_leaves : (d : RecordParts) (framework : Numbered) (room : List Row) → AmountsAddUp → HasRoom room d → HasRoom room (with_other_tasks d (tasks_after (EndFramework framework) d.tasks))
 ended_leaves d framework room sums left name = omega (arith, left name, held_kept name (λ t. not (same t.job.framework framework)) d.tasks sums)
 
 abbrev pub LaunchesNothing : Command → Type 0
@@ -311,7 +311,7 @@ LaunchesNothing (Kill key) = ⊤
 LaunchesNothing (Ack key k) = ⊤
 LaunchesNothing (EndFramework framework) = ⊤
 
-pub command_leaves : (d : Durable) (command : Command) (room : List Row) → AmountsAddUp → LaunchesNothing command → HasRoom room d → HasRoom room (with_other_tasks d (tasks_after command d.tasks))
+pub command_leaves : (d : RecordParts) (command : Command) (room : List Row) → AmountsAddUp → LaunchesNothing command → HasRoom room d → HasRoom room (with_other_tasks d (tasks_after command d.tasks))
 command_leaves d (Launch job offers) room sums none left = absurd none
 command_leaves d (Kill key) room sums none left = stated_leaves d key Killed room sums left
 command_leaves d (Ack key k) room sums none left = acknowledged_leaves d key k room sums left

@@ -1,7 +1,7 @@
 -- What takes memory.
 use Rattle.std.proofs.Common.{◌≡◌, Bool, true, false, Ok, Err, refl}
 use Rattle.std.specs.Prelude.{if◌then◌else◌}
-use Rattle.mails.specs.declared.refusal.AgentRefusal.TheVariants.{NoRoom}
+use Rattle.messages.specs.declared.refusal.AgentRefusal.TheVariants.{NoRoom}
 use Rattle.cluster_model.specs.Agents.{Draft}
 use Rattle.agent_core.specs.Drafts.{takes_memory}
 

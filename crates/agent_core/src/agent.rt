@@ -11,7 +11,7 @@ use crate::fault::AgentFault;
 use crate::record::Record;
 use crate::room::RecordWithRoom;
 use crate::state::State;
-use mails::{AgentMail, Cause};
+use messages::{AgentMail, Cause};
 use std::alloc::Global;
 use std::marker::Model;
 use stream_core::LinkIn;

@@ -1,7 +1,7 @@
 //! Where an agent's record is kept.
 
 ghost use Rattle.std.specs.Prelude.{Option, Some, IfOk, OnOk};
-ghost use Rattle.mails.specs.declared.record.Durable.{Durable};
+ghost use Rattle.messages.specs.declared.record.RecordParts.{RecordParts};
 
 use crate::record::Record;
 use std::alloc::Global;
@@ -12,7 +12,7 @@ pub trait Cabinet {
     type Fault: Drop;
 
     /// It keeps this record, or none.
-    ghost keeps: { Self → Option Durable → Type 0 };
+    ghost keeps: { Self → Option RecordParts → Type 0 };
 
     /// Keeps a record in place of the one before. After a fault it may keep either of the two:
     /// then it is to be opened again.

@@ -1,7 +1,7 @@
 //! What an agent prepares at a cause.
 
 ghost use Rattle.std.specs.Prelude.{◌≡◌, ◌<◌, true, false, suc, nat_le, Ok, IfErr, IfOk};
-ghost use Rattle.mails.specs.declared.refusal.AgentRefusal.TheVariants.{SessionsSpent};
+ghost use Rattle.messages.specs.declared.refusal.AgentRefusal.TheVariants.{SessionsSpent};
 ghost use Rattle.cluster_model.specs.Ids.{last_number};
 ghost use Rattle.cluster_model.specs.Agents.{reports, opens_again, opens_next, receives_hello, receives_mail, executes, next_of};
 ghost use Rattle.agent_core.specs.Drafts.{agent_of, next_draft, after_state, receives_in_order, is_in_order, is_next_command, is_with_run, launches_anew, names_run, Prepares};
@@ -9,10 +9,10 @@ ghost use Rattle.agent_core.specs.Drafts.{agent_of, next_draft, after_state, rec
 use crate::commands::Next;
 use crate::fault::AgentFault;
 use crate::state::State;
-use mails::{AgentRefusal, Cause, Command, MasterMail};
+use crate::tasks::{has_ended_task, has_task, lacks_place, push_fronts_at, stated_all};
+use messages::{AgentRefusal, Cause, Command, MasterMail};
 use names_core::{LaunchKey, Run, TaskState};
 use quantity::Resources;
-use recorded_tasks::{has_ended_task, has_task, lacks_place, push_fronts_at, stated_all};
 use std::alloc::{AllocError, Global};
 
 /// A Hello names a run above 0: the call adds this to a proof.

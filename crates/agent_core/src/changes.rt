@@ -10,9 +10,9 @@ ghost use Rattle.agent_core.specs.Drafts.{agent_of};
 ghost use Rattle.agent_core.specs.Records.{HasRoom, is_record, with_other_tasks};
 
 use crate::state::State;
-use mails::{Command, RecordedTask};
+use messages::{Command, RecordedTask};
 use names_core::{LaunchKey, TaskState};
-use shared_value::Shared;
+use values::Shared;
 
 /// The updates of all tasks are as those of every value of their type.
 fn tasks_are_recorded(tasks: &[Shared<RecordedTask>])

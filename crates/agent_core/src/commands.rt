@@ -2,24 +2,22 @@
 
 ghost use Rattle.std.specs.Prelude.{◌≡◌, ◌<◌, true, Ok, IfOk, IfSome, is_some, suc};
 ghost use Rattle.cluster_model.specs.Agents.{has_room, receives_command, applies, tasks_after};
-ghost use Rattle.mails.specs.declared.mail.Command.TheVariants.{Launch};
-ghost use Rattle.mails.specs.declared.mail.MasterMail.TheVariants.{Issued};
+ghost use Rattle.messages.specs.declared.mail.Command.TheVariants.{Launch};
+ghost use Rattle.messages.specs.declared.mail.MasterMail.TheVariants.{Issued};
 ghost use Rattle.agent_core.specs.Drafts.{agent_of, applied_with, receives_in_order, is_with_run, launches_anew, next_draft, Prepares, reported_again};
 ghost use Rattle.agent_core.specs.Records.{HasRoom, is_record, with_other_tasks};
 
 use crate::fault::AgentFault;
 use crate::state::State;
-use listed::Listed;
-use mails::{AgentMail, AgentRefusal, Command, Job, RecordedTask};
-use names_core::{LaunchKey, OfferId, TaskState};
-use plain_data::copies_of;
-use quantity::Resources;
-use recorded_tasks::{
+use crate::tasks::{
     acknowledged_all, count_before, front_sent_after, push_fronts_at, stated_all, without_framework,
 };
-use shared_value::Shared;
+use messages::{AgentMail, AgentRefusal, Command, Job, RecordedTask};
+use names_core::{LaunchKey, OfferId, TaskState};
+use quantity::Resources;
 use std::alloc::{AllocError, Global};
 use stream_core::{LinkIn, Updates};
+use values::{Listed, Shared, copies_of};
 
 /// What an agent would be, and the mails that it would send.
 #[derive(Drop)]

@@ -3,9 +3,8 @@
 ghost use Rattle.std.specs.Prelude.{◌≡◌, ◌↔◌, ◌≤◌, IsTrue, length};
 ghost use Rattle.agent_core.specs.Prepared.{spliced};
 
-use mails::RecordedTask;
-use plain_data::are_same;
-use shared_value::Shared;
+use messages::RecordedTask;
+use values::{Shared, are_same};
 
 /// Whether tasks are others with their part between `from` and `to` replaced. It takes no memory.
 pub fn is_spliced(

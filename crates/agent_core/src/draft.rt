@@ -6,18 +6,18 @@ ghost use Rattle.agent_core.specs.Drafts.{agent_of, is_with_run, next_draft};
 use crate::commands::Next;
 use crate::differences::is_spliced;
 use crate::record::Record;
-use crate::state::{Former, State};
-use mails::AgentMail;
-use plain_data::copies_of;
+use crate::state::{State, StateBefore};
+use messages::AgentMail;
 use std::alloc::{AllocError, Global};
 use std::marker::Model;
+use values::copies_of;
 
 /// A change of an agent, prepared and not yet made:
 /// its record is to be saved before it is committed.
 #[derive(Drop)]
 pub struct Draft {
     /// What the agent is, with a part of its tasks alone.
-    before: Former,
+    before: StateBefore,
     /// Where these tasks are: before and after that the draft's tasks are the agent's.
     from: usize,
     to: usize,

@@ -3,7 +3,7 @@
 ghost use Rattle.std.specs.Prelude.{◌≡◌};
 ghost use Rattle.agent_core.specs.declared.fault.AgentFault.TheVariants.{OutOfMemory, Refused};
 
-use mails::AgentRefusal;
+use messages::AgentRefusal;
 use std::alloc::{AllocError, AllocFailed};
 use thiserror::Error;
 

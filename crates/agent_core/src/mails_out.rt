@@ -5,11 +5,10 @@ ghost use Rattle.cluster_model.specs.Agents.{fronts, report_of};
 ghost use Rattle.agent_core.specs.Drafts.{agent_of};
 
 use crate::state::State;
-use listed::Listed;
-use mails::AgentMail;
-use plain_data::Plain;
-use recorded_tasks::{all_reported, push_fronts};
+use crate::tasks::{all_reported, push_fronts};
+use messages::AgentMail;
 use std::alloc::{AllocError, Global};
+use values::{Listed, Plain};
 
 impl State {
     /// Adds the fronts of all tasks, where a session is open.

@@ -4,22 +4,20 @@ ghost use Rattle.std.specs.Prelude.{◌≡◌, true, IfOk};
 ghost use Rattle.cluster_model.specs.Agents as agents;
 ghost use Rattle.agent_core.specs.Records.{is_behind, keys_rise, none_is_done, has_begun, is_record, rebuilt};
 
-use listed::Listed;
-use mails::{Durable, RecordedTask};
+use crate::tasks::room_beside;
+use messages::{RecordParts, RecordedTask};
 use names_core::{AgentName, LaunchKey};
-use plain_data::Plain;
 use quantity::Resources;
-use recorded_tasks::room_beside;
-use shared_value::Shared;
 use std::alloc::{AllocError, Global};
 use std::marker::Model;
+use values::{Listed, Plain, Shared};
 
 /// A record that an agent can have: launch keys rise, no task is done, run 0 is only with
 /// session 0 and no tasks, and the live tasks fit the total. (That a task has at most 4,096
 /// updates, a terminal one last, and acknowledges at most these holds of every `Updates`.)
 #[derive(Clone, Debug, PartialEq)]
 pub struct Record {
-    parts: Durable,
+    parts: RecordParts,
 }
 
 // By hand, so that the proof of who drops one visits none of its parts.
@@ -31,10 +29,10 @@ impl Drop for Record {
 
 impl Model for Record {
     ghost use Rattle.std.specs.Prelude.{◌≡◌, true};
-    ghost use Rattle.mails.specs.declared.record.Durable.{Durable};
+    ghost use Rattle.messages.specs.declared.record.RecordParts.{RecordParts};
     ghost use Rattle.agent_core.specs.Records.{is_record};
 
-    ghost Value = { Durable };
+    ghost Value = { RecordParts };
 
     ghost view = { λ r. r.parts };
 
@@ -44,7 +42,7 @@ impl Model for Record {
 }
 
 impl Plain for Record {
-    ghost use Rattle.mails.specs.contracts.record.DurablePlain.TheImpl.Laws.{decided-law as durable_decided};
+    ghost use Rattle.messages.specs.contracts.record.RecordPartsPlain.TheImpl.Laws.{decided-law as durable_decided};
     ghost use Rattle.std.proofs.Common.{rules};
 
     ghost cloned = { Prim.search rules };
@@ -81,7 +79,7 @@ fn none_is_done(tasks: &[Shared<RecordedTask>]) -> bool
     tasks.iter().all(|task| !task.updates.done())
 }
 
-fn has_begun(durable: &Durable) -> bool
+fn has_begun(durable: &RecordParts) -> bool
     ensures { result ≡ has_begun durable.now }
 {
     durable.run != 0 || (durable.session == 0 && durable.tasks.len() == 0)
@@ -89,7 +87,7 @@ fn has_begun(durable: &Durable) -> bool
 
 /// Whether an agent can have this record: its launch keys rise, no task is done,
 /// run 0 is only with session 0 and no tasks, and the live tasks fit the total.
-fn is_record(alloc: Global, durable: &Durable) -> Result<bool, AllocError>
+fn is_record(alloc: Global, durable: &RecordParts) -> Result<bool, AllocError>
     ensures { IfOk result (λ is. is ≡ is_record durable.now) }
 {
     let tasks = durable.tasks.as_slice();
@@ -107,7 +105,7 @@ impl Record {
         ensures { result ≡ agents.fresh name total }
     {
         Record {
-            parts: Durable {
+            parts: RecordParts {
                 name,
                 total,
                 session: 0,
@@ -118,7 +116,7 @@ impl Record {
     }
 
     /// The record of these parts, or None where no agent can have it.
-    pub fn of(alloc: Global, parts: Durable) -> Result<Option<Record>, AllocError>
+    pub fn of(alloc: Global, parts: RecordParts) -> Result<Option<Record>, AllocError>
         ensures { IfOk result (λ found. found ≡ rebuilt parts) }
     {
         if is_record(alloc, &parts)? {
@@ -129,7 +127,7 @@ impl Record {
     }
 
     /// The record of parts that are known to be those of one.
-    pub(crate) fn make(parts: Durable) -> Record
+    pub(crate) fn make(parts: RecordParts) -> Record
         requires { is_record parts ≡ true }
         ensures { result ≡ parts }
     {
@@ -137,7 +135,7 @@ impl Record {
     }
 
     /// The parts. It takes no memory.
-    pub fn parts(&self) -> &Durable
+    pub fn parts(&self) -> &RecordParts
         ensures parts { result.now ≡ self.now }
         ensures recorded { is_record self.now ≡ true }
     {
@@ -145,7 +143,7 @@ impl Record {
     }
 
     /// Returns the parts. It takes no memory.
-    pub fn into_parts(self) -> Durable
+    pub fn into_parts(self) -> RecordParts
         ensures parts { result ≡ self }
         ensures recorded { is_record self ≡ true }
     {

@@ -3,15 +3,15 @@
 ghost use Rattle.std.specs.Prelude.{◌≡◌, ◌++◌, true, IfOk, IfSome, is_some};
 ghost use Rattle.quantity.specs.Rows.{covers};
 ghost use Rattle.cluster_model.specs.Agents.{live_tasks, task_rows};
-ghost use Rattle.recorded_tasks.specs.Room.{Leaves};
+ghost use Rattle.agent_core.specs.Room.{Leaves};
 ghost use Rattle.agent_core.specs.Records.{HasRoom, is_record};
 
 use crate::record::Record;
-use mails::Durable;
-use plain_data::Plain;
+use messages::RecordParts;
 use quantity::Resources;
 use std::alloc::{AllocError, Global};
 use std::marker::Model;
+use values::Plain;
 
 /// A record, and resources that its live tasks leave of the total, where some are known.
 #[derive(Drop)]
@@ -23,10 +23,10 @@ pub struct RecordWithRoom {
 
 impl Model for RecordWithRoom {
     ghost use Rattle.std.specs.Prelude.{IfSome};
-    ghost use Rattle.mails.specs.declared.record.Durable.{Durable};
+    ghost use Rattle.messages.specs.declared.record.RecordParts.{RecordParts};
     ghost use Rattle.agent_core.specs.Records.{HasRoom};
 
-    ghost Value = { Durable };
+    ghost Value = { RecordParts };
 
     ghost view = { λ r. r.durable };
 
@@ -45,7 +45,7 @@ impl RecordWithRoom {
     }
 
     /// The record of parts that are known to be those of one, with a room that its live tasks leave.
-    pub fn make(parts: Durable, room: Resources) -> RecordWithRoom
+    pub fn make(parts: RecordParts, room: Resources) -> RecordWithRoom
         requires recorded { is_record parts ≡ true }
         requires room { HasRoom room parts }
         ensures { result ≡ parts }
@@ -107,6 +107,6 @@ impl RecordWithRoom {
             }
         }
         let parts = self.durable.parts();
-        recorded_tasks::room_beside(alloc, &parts.total, resources, parts.tasks.as_slice())
+        crate::tasks::room_beside(alloc, &parts.total, resources, parts.tasks.as_slice())
     }
 }

@@ -7,9 +7,9 @@ ghost use Rattle.agent_core.specs.Drafts.{agent_of};
 ghost use Rattle.agent_core.specs.Spared.{command_spares, spares};
 
 use crate::state::State;
-use mails::{Cause, Command, MasterMail, RecordedTask};
-use recorded_tasks::is_of_key;
-use shared_value::Shared;
+use crate::tasks::is_of_key;
+use messages::{Cause, Command, MasterMail, RecordedTask};
+use values::Shared;
 
 /// Whether a command names neither a task nor its framework, and launches none before it.
 fn command_spares(command: &Command, task: &RecordedTask) -> bool

@@ -8,13 +8,11 @@ ghost use Rattle.agent_core.specs.Records.{HasRoom, is_record, with_other_tasks}
 
 use crate::record::Record;
 use crate::room::RecordWithRoom;
-use listed::Listed;
-use mails::{Durable, RecordedTask};
-use plain_data::Plain;
+use messages::{RecordParts, RecordedTask};
 use quantity::{Resources, covers_is_at_least};
-use shared_value::Shared;
 use std::alloc::{AllocError, Global};
 use stream_core::LinkIn;
+use values::{Listed, Plain, Shared};
 
 #[derive(Drop)]
 pub struct State {
@@ -26,14 +24,14 @@ pub struct State {
 
 /// What an agent is, with a part of its tasks.
 #[derive(Drop)]
-pub struct Former {
-    pub durable: Durable,
+pub struct StateBefore {
+    pub durable: RecordParts,
     pub in_session: bool,
     pub link: LinkIn,
 }
 
 impl State {
-    pub fn parts(&self) -> &Durable
+    pub fn parts(&self) -> &RecordParts
         ensures parts { result.now ≡ self.now.durable }
         ensures recorded { is_record self.now.durable ≡ true }
     {
@@ -46,11 +44,11 @@ impl State {
         self.parts().tasks.as_slice()
     }
 
-    fn durable_with(&self, tasks: Vec<Shared<RecordedTask>>) -> Result<Durable, AllocError>
+    fn durable_with(&self, tasks: Vec<Shared<RecordedTask>>) -> Result<RecordParts, AllocError>
         ensures { IfOk result (λ d. d ≡ with_other_tasks self.now.durable tasks.items) }
     {
         let parts = self.parts();
-        Ok(Durable {
+        Ok(RecordParts {
             name: parts.name.copy()?,
             total: parts.total.copy()?,
             session: parts.session,
@@ -79,11 +77,11 @@ impl State {
     }
 
     /// With other tasks, which need make no record.
-    pub fn former(&self, tasks: Vec<Shared<RecordedTask>>) -> Result<Former, AllocError>
+    pub fn former(&self, tasks: Vec<Shared<RecordedTask>>) -> Result<StateBefore, AllocError>
         ensures { IfOk result (λ f. former_of f
             ≡ with_tasks (agent_of self.now) tasks.items self.now.link) }
     {
-        Ok(Former {
+        Ok(StateBefore {
             durable: self.durable_with(tasks)?,
             in_session: self.in_session,
             link: self.link,
@@ -131,7 +129,7 @@ impl State {
     }
 }
 
-impl Former {
+impl StateBefore {
     /// Whether an agent is this one in all but its tasks.
     pub fn is_same_but_for_tasks(&self, other: &State) -> bool
         ensures { IsTrue result

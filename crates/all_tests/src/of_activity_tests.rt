@@ -1,7 +1,7 @@
 //! Activities.
 
-use activity_tests as tests;
 use std::test::*;
+use test_agents as tests;
 
 #[test]
 fn the_old_record_stands(rt: HostRuntime) {

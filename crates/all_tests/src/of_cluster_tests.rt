@@ -1,7 +1,7 @@
 //! Clusters.
 
-use cluster_tests as tests;
 use std::test::Fail;
+use test_cluster as tests;
 
 #[test]
 fn what_was_put_can_be_handed_out(rt: HostRuntime) {

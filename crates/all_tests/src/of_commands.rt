@@ -1,7 +1,7 @@
 //! Commands.
 
-use input_tests as tests;
 use std::test::*;
+use test_input as tests;
 
 #[test]
 fn frameworks_are_limited(rt: HostRuntime) {

@@ -1,7 +1,7 @@
 //! An office with its HTTP endpoint.
 
-use office_tests as tests;
 use std::test::*;
+use test_office as tests;
 
 #[test]
 fn a_subscription_ends_with_the_office(rt: HostRuntime) {

@@ -1,7 +1,7 @@
 //! Connections over HTTP to one master.
 
-use input_tests as tests;
 use std::test::*;
+use test_input as tests;
 
 #[test]
 fn a_framework_fails_over(rt: HostRuntime) {

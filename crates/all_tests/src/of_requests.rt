@@ -1,7 +1,7 @@
 //! Requests and connections.
 
-use input_tests as tests;
 use std::test::*;
+use test_input as tests;
 
 #[test]
 fn heads(rt: HostRuntime) {

@@ -1,7 +1,7 @@
 //! Records in stores.
 
 use std::test::*;
-use store_tests as tests;
+use test_store as tests;
 
 #[test]
 fn the_last_saved_is_loaded(rt: HostRuntime) {

@@ -1,7 +1,7 @@
 //! Several threads.
 
 use std::test::*;
-use thread_tests as tests;
+use test_office as tests;
 
 #[test]
 fn a_foreign_receipt(rt: HostRuntime) {

@@ -1,0 +1,17 @@
+pub mod Binds
+pub mod JudgedCalls
+pub mod JudgedLaunches
+pub mod JudgedMembers
+pub mod Judging
+pub mod ReadCalls
+pub mod ReadLaunches
+pub mod ReadLists
+pub mod ReadMembers
+pub mod ReadResources
+pub mod ReadSubscribe
+pub mod ReadValues
+pub mod Sums
+pub mod Cutting
+pub mod Pointless
+pub mod Trimming
+pub mod Each

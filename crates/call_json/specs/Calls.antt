@@ -4,15 +4,15 @@ use Rattle.std.specs.Str.{is_utf8}
 use Rattle.serde_json.specs.Data.{Data, depth}
 use Rattle.serde_json.specs.Find.{get, as_object}
 use Rattle.serde_json.specs.Read.{max_depth, read}
-use Rattle.number_trim.specs.Trim.{trim}
-use Rattle.call_members.specs.Members.{text_of}
-use Rattle.call_members.specs.declared.fault.Refusal.{Refusal}
-use Rattle.call_members.specs.declared.fault.Refusal.TheVariants.{NotJson, NoType, UnknownType}
-use Rattle.call_bodies.specs.Frameworks.{teardown_of, revive_of, suppress_of}
-use Rattle.call_bodies.specs.Subscribe.{subscribe_of}
-use Rattle.call_bodies.specs.Offers.{accept_of, decline_of}
-use Rattle.call_bodies.specs.Tasks.{kill_of, acknowledge_of, reconcile_of}
-use Rattle.mails.specs.declared.call.Call.{Call}
+use Rattle.call_json.specs.Trim.{trim}
+use Rattle.call_json.specs.MemberLookups.{text_of}
+use Rattle.call_json.specs.declared.members.fault.Refusal.{Refusal}
+use Rattle.call_json.specs.declared.members.fault.Refusal.TheVariants.{NotJson, NoType, UnknownType}
+use Rattle.call_json.specs.Frameworks.{teardown_of, revive_of, suppress_of}
+use Rattle.call_json.specs.Subscribe.{subscribe_of}
+use Rattle.call_json.specs.Offers.{accept_of, decline_of}
+use Rattle.call_json.specs.Tasks.{kill_of, acknowledge_of, reconcile_of}
+use Rattle.messages.specs.declared.call.Call.{Call}
 use Rattle.call_json.specs.declared.read.Kind.{Kind}
 use Rattle.call_json.specs.declared.read.Kind.TheVariants.{Subscribe, Teardown, Accept, Decline, Revive, Suppress, Kill, Acknowledge, Reconcile}
 

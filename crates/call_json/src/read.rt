@@ -4,16 +4,16 @@ ghost use Rattle.std.specs.Prelude.{◌≡◌, ◌≤◌};
 ghost use Rattle.serde_json.specs.Data.{depth};
 ghost use Rattle.serde_json.specs.Read.{max_depth};
 ghost use Rattle.serde_json.specs.View.{view};
-ghost use Rattle.call_members.specs.Answers.{Gives};
+ghost use Rattle.call_json.specs.Answers.{Gives};
 ghost use Rattle.call_json.specs.Calls.{kind_of, by_kind, call_of, nested_call, read_json, read_call};
 
-use crate::nesting::nests_within;
-use call_bodies::{
+use crate::bodies::{
     accept, acknowledge, decline, kill, reconcile, revive, subscribe, suppress, teardown,
 };
-use call_members::{CallFault, Refusal};
-use mails::Call;
-use number_trim::trim;
+use crate::members::{CallFault, Refusal};
+use crate::nesting::nests_within;
+use crate::number_trim::trim;
+use messages::Call;
 use serde_json::Value;
 use std::alloc::Global;
 

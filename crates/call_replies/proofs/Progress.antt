@@ -6,9 +6,9 @@ use Rattle.std.specs.Io.KnownBytes.{Appends, Consumes, IsAtEnd}
 use Rattle.frame_record.specs.declared.fault.FrameFault.{FrameFault}
 use Rattle.frame_record.specs.Records.{State as Standing, Reads, end_of}
 use Rattle.call_replies.specs.Replies.{first_master, Asked, IsAnswer, after_all, fault_in, replies}
-use Rattle.device_io.specs.Read.{all_consumed, consumes_more, consumes_nothing, if_known, some_left}
-use Rattle.device_io.specs.Writes.{AppendsFront}
-use Rattle.device_io.specs.Written.{appends_more, appends_nothing, front_after, front_longer}
+use Rattle.frame_record.specs.Read.{all_consumed, consumes_more, consumes_nothing, if_known, some_left}
+use Rattle.frame_record.specs.Writes.{AppendsFront}
+use Rattle.frame_record.specs.Written.{appends_more, appends_nothing, front_after, front_longer}
 use Rattle.call_replies.proofs.Replying.{after_all-append, after_none, replies-append, replies_none}
 
 -- so much of the input was read, these records stood on it, and their replies were written

@@ -4,8 +4,8 @@ use Rattle.std.proofs.lemmas.List.{take_more, drop_more, map-append, take-append
 use Rattle.frame_record.specs.Firsts.{bodies}
 use Rattle.call_json.specs.Calls.{read_call}
 use Rattle.call_replies.specs.Replies.{Asked, frames, reply, replies, after_all}
-use Rattle.device_io.specs.Writes.{AppendsFront}
-use Rattle.device_io.specs.Written.{front_after, front_longer}
+use Rattle.frame_record.specs.Writes.{AppendsFront}
+use Rattle.frame_record.specs.Written.{front_after, front_longer}
 use Rattle.std.specs.Io.KnownBytes.{Appends}
 
 pub replies_none : (s : Asked) → replies s [] ≡ []

@@ -1,24 +1,26 @@
 -- What the program writes for the calls that it reads.
-use Rattle.std.specs.Prelude.{◌≡◌, ℕ, List, [], ◌∷◌, ◌++◌, map, flat_map, Option, None, Some, Result, Ok, Err, option_and_then}
+use Rattle.std.specs.Prelude.{◌≡◌, ◌⊎◌, ℕ, List, [], ◌∷◌, ◌++◌, map, flat_map, Option, None, Some, Result, Ok, Err, option_and_then}
 use Rattle.frame_record.specs.declared.fault.FrameFault.{FrameFault}
 use Rattle.frame_record.specs.Records.{State as Standing, Reads, record_text, end_of}
 use Rattle.names_core.specs.Ids.{Numbered}
-use Rattle.mails.specs.declared.call.Call.{Call}
-use Rattle.mails.specs.declared.call.Call.TheVariants.{Subscribe, Teardown, Accept, Decline, Revive, Suppress, Kill, Acknowledge, Reconcile}
-use Rattle.call_members.specs.declared.fault.Refusal.{Refusal}
+use Rattle.messages.specs.declared.call.Call.{Call}
+use Rattle.messages.specs.declared.call.Call.TheVariants.{Subscribe, Teardown, Accept, Decline, Revive, Suppress, Kill, Acknowledge, Reconcile}
+use Rattle.call_json.specs.declared.members.fault.Refusal.{Refusal}
 use Rattle.call_json.specs.Calls.{read_call}
-use Rattle.call_members.specs.Texts as call_texts
-use Rattle.scheduler_events.specs.declared.event.Event.{Event}
-use Rattle.scheduler_events.specs.declared.event.Event.TheVariants.{Error}
+use Rattle.call_json.specs.Texts as call_texts
+use Rattle.messages.specs.declared.events.event.Event.{Event}
+use Rattle.messages.specs.declared.events.event.Event.TheVariants.{Error}
 use Rattle.event_json.specs.Events.{event_text}
-use Rattle.mails.specs.declared.refusal.MasterRefusal.{MasterRefusal}
-use Rattle.cluster_model.specs.Masters.{Doing, Master, after_doing, framework_of, stream_of}
-use Rattle.cluster_model.specs.Calls.{called}
+use Rattle.messages.specs.declared.refusal.MasterRefusal.{MasterRefusal}
+use Rattle.cluster_model.specs.Masters.{MasterEffect, Master, after_doing, framework_of, stream_of}
+use Rattle.cluster_model.specs.Calls.{call_effect}
 use Rattle.master_state.specs.States.{fresh}
 use Rattle.master_state.specs.Works.{master_of}
-use Rattle.scheduler_events.specs.declared.stream_event.StreamEvent.{StreamEvent}
+use Rattle.messages.specs.declared.events.stream_event.StreamEvent.{StreamEvent}
 use Rattle.master_core.specs.Steps.{outs_of}
-use Rattle.mails.specs.Refusals.{master_refusal_text}
+use Rattle.messages.specs.Refusals.{master_refusal_text}
+use Rattle.call_replies.specs.declared.fault.Stop.{Stop}
+use Rattle.call_replies.specs.declared.fault.Stop.TheVariants.{CallMemory, MasterMemory, FrameMemory, Device}
 
 -- the framework that a call is of, where it has an id
 abbrev pub framework_of_call : Call → Option Numbered
@@ -55,25 +57,42 @@ abbrev pub event_in : StreamEvent → Event
 event_in e = e.event
 
 -- a call is answered by its events, and a refused one by an ERROR event with the refusal's text
-abbrev pub reply_by : Master → Doing → Option MasterRefusal → Reply
+abbrev pub reply_by : Master → MasterEffect → Option MasterRefusal → Reply
 reply_by m d None =
     record { events = map event_in (outs_of m d).events; after = Some (after_doing m d) }
 reply_by m d (Some refusal) =
     record { events = Error (master_refusal_text refusal) ∷ []; after = Some m }
 
-abbrev pub answered : Master → Doing → Reply
+abbrev pub answered : Master → MasterEffect → Reply
 answered m d = reply_by m d d.refusal
 
 -- a master that is down answers no call
 abbrev pub reply_of : Asked → Call → Reply
 reply_of None call = record { events = []; after = None }
-reply_of (Some m) call = answered m (called m (stream_given (Some m) call) call)
+reply_of (Some m) call = answered m (call_effect m (stream_given (Some m) call) call)
 
 -- a record that is no call is answered by an ERROR event with the text of what is wrong with it
 abbrev pub reply : Asked → Result Call Refusal → Reply
 reply asked (Ok call) = reply_of asked call
 reply asked (Err refusal) =
     record { events = Error (call_texts.refusal_text refusal) ∷ []; after = asked }
+
+-- the master took the call: it is the one after it, or it is down
+abbrev pub HasTaken : Asked → Asked → Result Call Refusal → Type 0
+HasTaken asked after read = (after ≡ (reply asked read).after) ⊎ (after ≡ None)
+
+-- Why a record has no answer: memory ran out where it was read, and no master was asked, or it ran
+-- out behind that. Nothing else can be the cause.
+abbrev pub LacksAnswer : Stop → Asked → Asked → Result Call Refusal → Type 0
+LacksAnswer CallMemory asked after read = after ≡ asked
+LacksAnswer MasterMemory asked after read = HasTaken asked after read
+LacksAnswer FrameMemory asked after read = ⊥
+LacksAnswer (Device e) asked after read = ⊥
+
+-- why an answer isn't written: there is none, or the writer failed behind it
+abbrev pub StopsAt : Stop → Asked → Asked → Result Call Refusal → Type 0
+StopsAt (Device e) asked after read = after ≡ (reply asked read).after
+StopsAt stop asked after read = LacksAnswer stop asked after read
 
 abbrev pub frame : Event → List ℕ
 frame e = record_text (event_text e)

@@ -2,15 +2,14 @@
 
 ghost use Rattle.std.specs.Prelude.{◌≡◌, ◌<◌, length, vec_len, List, ℕ, Option, None, Some, IfOk, IfSome, OnErr};
 ghost use Rattle.std.specs.Io.KnownBytes.{Appends};
-ghost use Rattle.device_io.specs.Writes.{AppendsFront};
+ghost use Rattle.frame_record.specs.Writes.{AppendsFront};
 ghost use Rattle.frame_record.specs.declared.fault.FrameFault.{FrameFault};
 ghost use Rattle.frame_record.specs.Records.{end_of};
 ghost use Rattle.call_replies.specs.Replies.{IsAnswer, fault_in, first_master};
 
 use crate::fault::Stop;
 use crate::reply::answer_all;
-use device_io::read_some;
-use frame_record::{FrameFault, Reader, fault_stays, first_records_stay};
+use frame_record::{FrameFault, Reader, fault_stays, first_records_stay, read_some};
 use master_core::{ConfiguredAgents, Master};
 use names_core::Run;
 use std::alloc::{AllocError, Global};

@@ -1,22 +1,22 @@
 //! The answers to records.
 
-ghost use Rattle.std.specs.Prelude.{◌≡◌, ◌≤◌, ◌++◌, [], ◌∷◌, length, List, ℕ, Result, Option, None, Some, Ok, Err, map, IsTrue, IfOk, OnOk, OnErr};
+ghost use Rattle.std.specs.Prelude.{◌≡◌, ◌≤◌, ◌++◌, [], ◌∷◌, length, List, ℕ, Result, Option, None, Some, Ok, Err, map, IsTrue, IfOk, IfErr, OnOk, OnErr};
 ghost use Rattle.std.specs.Io.KnownBytes.{Appends};
-ghost use Rattle.device_io.specs.Writes.{AppendsFront};
+ghost use Rattle.frame_record.specs.Writes.{AppendsFront};
 ghost use Rattle.frame_record.specs.Firsts.{bodies};
 ghost use Rattle.call_json.specs.Calls.{read_call};
-ghost use Rattle.call_members.specs.Texts as call_texts;
-ghost use Rattle.scheduler_events.specs.declared.event.Event.TheVariants.{Error};
-ghost use Rattle.call_replies.specs.Replies.{after_all, event_in, frame, frames, framework_of_call, replies, reply, stream_given};
+ghost use Rattle.call_json.specs.Texts as call_texts;
+ghost use Rattle.messages.specs.declared.events.event.Event.TheVariants.{Error};
+ghost use Rattle.call_replies.specs.Replies.{after_all, event_in, frame, frames, framework_of_call, replies, reply, stream_given, HasTaken, LacksAnswer, StopsAt};
+ghost use Rattle.call_replies.specs.declared.fault.Stop.TheVariants.{MasterMemory};
 
 use crate::fault::Stop;
 use call_json::{Call, CallFault, read_call};
-use device_io::put;
 use event_json::write_event;
-use frame_record::{FrameFault, encode};
+use frame_record::{FrameFault, encode, put};
 use master_core::{Master, MasterFault};
+use messages::{Event, Message, StreamEvent};
 use names_core::{FrameworkId, StreamId};
-use scheduler_events::{Event, Message, StreamEvent};
 use std::alloc::Global;
 use std::io::Write;
 
@@ -45,7 +45,8 @@ fn stream_given(master: &Master, call: &Call) -> Option<StreamId>
 
 /// Adds the frame of an event.
 fn add_event(alloc: Global, text: &mut Vec<u8>, event: &Event) -> Result<(), Stop>
-    ensures { OnOk result (text.new.items ≡ text.old.items ++ frame event.now) }
+    ensures ok { OnOk result (text.new.items ≡ text.old.items ++ frame event.now) }
+    ensures err { IfErr result (λ stop. stop ≡ MasterMemory) }
 {
     let Ok(body) = write_event(alloc, event) else {
         return Err(Stop::MasterMemory);
@@ -62,7 +63,8 @@ fn add_event(alloc: Global, text: &mut Vec<u8>, event: &Event) -> Result<(), Sto
 }
 
 fn event_frames(alloc: Global, events: &[StreamEvent]) -> Result<Vec<u8>, Stop>
-    ensures { IfOk result (λ text. text.items ≡ frames (map event_in events.now)) }
+    ensures ok { IfOk result (λ text. text.items ≡ frames (map event_in events.now)) }
+    ensures err { IfErr result (λ stop. stop ≡ MasterMemory) }
 {
     let mut text = Vec::new(alloc);
     for told in events {
@@ -74,7 +76,8 @@ fn event_frames(alloc: Global, events: &[StreamEvent]) -> Result<Vec<u8>, Stop>
 /// The frame of an ERROR event.
 fn error_frame(alloc: Global, message: &str) -> Result<Vec<u8>, Stop>
     requires { length message.now ≤ 255 }
-    ensures { IfOk result (λ text. text.items ≡ frames (Error message.now ∷ [])) }
+    ensures ok { IfOk result (λ text. text.items ≡ frames (Error message.now ∷ [])) }
+    ensures err { IfErr result (λ stop. stop ≡ MasterMemory) }
 {
     let Ok(message) = Message::from_text(alloc, message) else {
         return Err(Stop::MasterMemory);
@@ -86,8 +89,10 @@ fn error_frame(alloc: Global, message: &str) -> Result<Vec<u8>, Stop>
 
 /// What the master answers to a call.
 fn answer(alloc: Global, master: &mut Master, call: Call) -> Result<Vec<u8>, Stop>
-    ensures { IfOk result (λ text. (text.items ≡ frames (reply master.old (Ok call)).events)
-        × (master.new ≡ (reply master.old (Ok call)).after)) }
+    ensures ok { IfOk result (λ text. text.items ≡ frames (reply master.old (Ok call)).events) }
+    ensures after { OnOk result (master.new ≡ (reply master.old (Ok call)).after) }
+    ensures err { IfErr result (λ stop. (stop ≡ MasterMemory)
+        × HasTaken master.old master.new (Ok call)) }
 {
     let given = stream_given(master, &call);
     match master.call(alloc, given, call) {
@@ -99,9 +104,11 @@ fn answer(alloc: Global, master: &mut Master, call: Call) -> Result<Vec<u8>, Sto
 
 /// What a record is answered by.
 fn reply(alloc: Global, master: &mut Master, body: &[u8]) -> Result<Vec<u8>, Stop>
-    ensures { IfOk result
-        (λ text. (text.items ≡ frames (reply master.old (read_call body.now)).events)
-        × (master.new ≡ (reply master.old (read_call body.now)).after)) }
+    ensures ok { IfOk result
+        (λ text. text.items ≡ frames (reply master.old (read_call body.now)).events) }
+    ensures after { OnOk result (master.new ≡ (reply master.old (read_call body.now)).after) }
+    ensures err { IfErr result
+        (λ stop. LacksAnswer stop master.old master.new (read_call body.now)) }
 {
     match read_call(alloc, body) {
         Ok(call) => answer(alloc, master, call),
@@ -123,6 +130,7 @@ fn answer_one<W: Write>(
     ensures err { OnErr result
         (AppendsFront (W.contents writer.old) (W.contents writer.new)
         (frames (reply master.old (read_call body.now)).events)) }
+    ensures cause { IfErr result (λ stop. StopsAt stop master.old master.new (read_call body.now)) }
 {
     let text = match reply(alloc, master, body) {
         Ok(text) => text,

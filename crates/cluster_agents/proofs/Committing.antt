@@ -1,19 +1,19 @@
 -- An agent commits its draft.
 use Rattle.std.proofs.Common.{◌≡◌, ℕ, Bool, true, false, List, [], ◌∷◌, ◌++◌, map, slice_get, slice_set, Option, Some, None, Err, refl, sym, ap, ◌∙◌, subst}
 use Rattle.std.specs.Prelude.{if◌then◌else◌}
-use Rattle.mails.specs.declared.mail.AgentMail.{AgentMail}
+use Rattle.messages.specs.declared.mail.AgentMail.{AgentMail}
 use Rattle.cluster_model.specs.Agents.{Draft}
 use Rattle.cluster_model.specs.Channels.{Channel, Adopt}
-use Rattle.cluster_histories.specs.Clusters.{Cluster}
-use Rattle.cluster_steps.specs.declared.step.Step.TheVariants.{Commit}
-use Rattle.cluster_steps.specs.declared.fault.ClusterFault.TheVariants.{AgentDown, NoDraft, NoSuchAgent}
-use Rattle.cluster_steps.specs.declared.verdict.Verdict.TheVariants.{Ok as Fine}
-use Rattle.cluster_histories.specs.Steps.{answer, at_channel, by_draft, commits, if_up, with_draft}
+use Rattle.cluster_model.specs.Clusters.{Cluster}
+use Rattle.messages.specs.declared.steps.step.Step.TheVariants.{Commit}
+use Rattle.messages.specs.declared.steps.fault.ClusterFault.TheVariants.{AgentDown, NoDraft, NoSuchAgent}
+use Rattle.messages.specs.declared.steps.verdict.Verdict.TheVariants.{Ok as Fine}
+use Rattle.cluster_model.specs.Steps.{answer, at_channel, by_draft, commits, if_up, with_draft}
 use Rattle.cluster_laws.specs.declared.item.Item.{Item}
 use Rattle.cluster_laws.specs.Items.{StandIn, items_sent}
 use Rattle.cluster_laws.specs.Parts.{Part, from_agent, part_of}
-use Rattle.cluster_steps.specs.declared.verdict.Sent as code
-use Rattle.cluster_steps.specs.declared.verdict.Verdict.TheVariants as verdicts
+use Rattle.messages.specs.declared.steps.verdict.Sent as code
+use Rattle.messages.specs.declared.steps.verdict.Verdict.TheVariants as verdicts
 use Rattle.cluster_agents.specs.Agents.{AdoptsOne, KeptAgent, place_in, with_part}
 use Rattle.cluster_agents.specs.Moves.{Makes, Reached, kept_agents, kept_part, sending, StandsAt}
 use Rattle.cluster_agents.specs.Sending.{BringsOut, item_from, sent_from}
@@ -66,8 +66,8 @@ commit_made laws c name place a d items r stand e at is_up has = by (found c nam
         let made : Makes c (Commit name) verdicts.Ok (sending (map (from_agent f.x.side.name) d.mails)) (slice_set (kept_agents c) place (kept_part c.fallen (adopted f.x d))) (items ++ items_sent [] (map (from_agent f.x.side.name) d.mails)) =
         one_moves laws c (Commit name) place verdicts.Ok (map (from_agent f.x.side.name) d.mails) c.fallen (adopted f.x d) items r stand m in
         let agents : kept_part c.fallen (adopted f.x d) ≡ with_part d.after None a = ap (with_part d.after None) (sym is) in
-        let tells : map (from_agent f.x.side.name) d.mails ≡ map (sent_from name) d.mails = told f.x.side.name d.mails ∙ ap (λ (n : List ℕ). map (sent_from n) d.mails) f.called in
-        let keeps : items_sent [] (map (from_agent f.x.side.name) d.mails) ≡ map (item_from name) d.mails = kept f.x.side.name d.mails ∙ ap (λ (n : List ℕ). map (item_from n) d.mails) f.called in
+        let tells : map (from_agent f.x.side.name) d.mails ≡ map (sent_from name) d.mails = told f.x.side.name d.mails ∙ ap (λ (n : List ℕ). map (sent_from n) d.mails) f.call_effect in
+        let keeps : items_sent [] (map (from_agent f.x.side.name) d.mails) ≡ map (item_from name) d.mails = kept f.x.side.name d.mails ∙ ap (λ (n : List ℕ). map (item_from n) d.mails) f.call_effect in
         subst (λ (b : KeptAgent). Makes c (Commit name) verdicts.Ok (sending (map (sent_from name) d.mails)) (slice_set (kept_agents c) place b) (items ++ map (item_from name) d.mails)) agents
         (subst (λ (xs : List Item). Makes c (Commit name) verdicts.Ok (sending (map (sent_from name) d.mails)) (slice_set (kept_agents c) place (kept_part c.fallen (adopted f.x d))) (items ++ xs)) keeps
         (subst (λ (xs : List code.Sent). Makes c (Commit name) verdicts.Ok (sending xs) (slice_set (kept_agents c) place (kept_part c.fallen (adopted f.x d))) (items ++ items_sent [] (map (from_agent f.x.side.name) d.mails))) tells made))

@@ -5,9 +5,9 @@ use Rattle.std.specs.Cmp.Lexicographic.{bytes_decides}
 use Rattle.std.proofs.lemmas.Iterator.Adapters.{position_from-zero}
 use Rattle.std.proofs.lemmas.Map.Views.{any-filter_same}
 use Rattle.cluster_model.specs.Channels.{Channel}
-use Rattle.cluster_histories.specs.Clusters.{Cluster}
+use Rattle.cluster_model.specs.Clusters.{Cluster}
 use Rattle.cluster_model.specs.Openings.{NamesOnce}
-use Rattle.cluster_histories.specs.Steps.{channel_of}
+use Rattle.cluster_model.specs.Steps.{channel_of}
 use Rattle.cluster_laws.specs.Items.{names_of}
 use Rattle.cluster_laws.specs.Parts.{Part, part_of, parts_of}
 use Rattle.cluster_agents.specs.Agents.{KeptAgent, place_in}
@@ -42,11 +42,11 @@ record Stands (name : List ℕ) (cs : List Channel) (i k : ℕ) : Type 0 where
   x : Channel
   is : k ≡ place + i
   there : slice_get cs place ≡ Some x
-  called : x.side.name ≡ name
+  call_effect : x.side.name ≡ name
   first : find (has_name name) cs ≡ Some x
 
 behind : (name : List ℕ) (y : Channel) (cs : List Channel) (i k : ℕ) → has_name name y ≡ false → Stands name cs (i + 1) k → Stands name (y ∷ cs) i k
-behind name y cs i k e s = record { place = suc s.place; x = s.x; is = (let h : k ≡ s.place + (i + 1) = s.is in omega (arith, h)); there = s.there; called = s.called; first = rw e s.first }
+behind name y cs i k e s = record { place = suc s.place; x = s.x; is = (let h : k ≡ s.place + (i + 1) = s.is in omega (arith, h)); there = s.there; call_effect = s.call_effect; first = rw e s.first }
 
 stands : (fallen : List (List ℕ)) (name : List ℕ) (cs : List Channel) (i k : ℕ) → position_from (named name) i (kept_in fallen cs) ≡ Some k → Stands name cs i k
 stands fallen name [] i k e = absurd (let clash : None ≡ Some k = e in cc)
@@ -56,7 +56,7 @@ stands fallen name (y ∷ cs) i k e = by (has_name name y) refl e (λ f. stands 
     by true b f rest =
         let same : Some i ≡ Some k = rw b at f in
         let at_once : i ≡ k = cc in
-        record { place = 0; x = y; is = omega (arith, at_once); there = refl; called = bytes_same y.side.name name b; first = rw b refl }
+        record { place = 0; x = y; is = omega (arith, at_once); there = refl; call_effect = bytes_same y.side.name name b; first = rw b refl }
     by false b f rest = behind name y cs i k b (rest (rw b at f))
 
 stands_nowhere : (fallen : List (List ℕ)) (name : List ℕ) (cs : List Channel) (i : ℕ) → position_from (named name) i (kept_in fallen cs) ≡ None → find (has_name name) cs ≡ None
@@ -71,7 +71,7 @@ stands_nowhere fallen name (y ∷ cs) i e = by (has_name name y) refl e (λ f. s
 pub record Found (c : Cluster) (name : List ℕ) (place : ℕ) : Type 0 where
   pub x : Channel
   pub there : slice_get c.world.channels place ≡ Some x
-  pub called : x.side.name ≡ name
+  pub call_effect : x.side.name ≡ name
   pub channel : channel_of c name ≡ Some x
 
 pub found : (c : Cluster) (name : List ℕ) (place : ℕ) → place_in name (kept_agents c) ≡ Some place → Found c name place
@@ -80,7 +80,7 @@ found c name place e = made (stands c.fallen name c.world.channels 0 place (sym 
     made : Stands name c.world.channels 0 place → Found c name place
     made s =
         let same : s.place ≡ place = (let h : place ≡ s.place + 0 = s.is in omega (arith, h)) in
-        record { x = s.x; there = subst (λ (k : ℕ). slice_get c.world.channels k ≡ Some s.x) same s.there; called = s.called; channel = s.first }
+        record { x = s.x; there = subst (λ (k : ℕ). slice_get c.world.channels k ≡ Some s.x) same s.there; call_effect = s.call_effect; channel = s.first }
 
 pub not_found : (c : Cluster) (name : List ℕ) → place_in name (kept_agents c) ≡ None → channel_of c name ≡ None
 not_found c name e = stands_nowhere c.fallen name c.world.channels 0 (sym (position_from-zero (named name) (kept_agents c)) ∙ e)

@@ -3,3 +3,7 @@ pub mod Making
 pub mod Stopping
 pub mod Committing
 pub mod Preparing
+pub mod FreshRecords
+pub mod Permuted
+pub mod InOrder
+pub mod Decided

@@ -1,31 +1,31 @@
 -- What a step of an agent makes.
 use Rattle.std.proofs.Common.{◌≡◌, ℕ, Bool, true, false, List, [], ◌∷◌, ◌++◌, map, slice_get, slice_set, Some, None, Ok, Err, refl, sym, ap, ◌∙◌, subst, nat_le}
 use Rattle.std.specs.Prelude.{if◌then◌else◌}
-use Rattle.mails.specs.declared.record.Durable.{Durable}
-use Rattle.mails.specs.declared.mail.MasterMail.{MasterMail}
-use Rattle.mails.specs.declared.cause.Cause.{Cause}
+use Rattle.messages.specs.declared.record.RecordParts.{RecordParts}
+use Rattle.messages.specs.declared.mail.MasterMail.{MasterMail}
+use Rattle.messages.specs.declared.cause.Cause.{Cause}
 use Rattle.cluster_model.specs.Ids.{last_number}
 use Rattle.cluster_model.specs.Agents.{Draft, receives_mail, next_of, recovered}
 use Rattle.cluster_model.specs.Channels.{Channel, AgentStep, Draw, DrawMail, Adopt, StopWithout, StopWith, At, ByAgent, agent_step, is_own}
-use Rattle.cluster_histories.specs.Clusters.{Cluster, Stream, master_of}
-use Rattle.cluster_steps.specs.declared.verdict.Sent.{Sent}
-use Rattle.cluster_steps.specs.declared.step.Step.{Step}
-use Rattle.cluster_steps.specs.declared.fault.ClusterFault.TheVariants.{HistoryFull}
-use Rattle.cluster_steps.specs.declared.verdict.Verdict.{Verdict}
+use Rattle.cluster_model.specs.Clusters.{Cluster, Stream, master_of}
+use Rattle.messages.specs.declared.steps.verdict.Sent.{Sent}
+use Rattle.messages.specs.declared.steps.step.Step.{Step}
+use Rattle.messages.specs.declared.steps.fault.ClusterFault.TheVariants.{HistoryFull}
+use Rattle.messages.specs.declared.steps.verdict.Verdict.{Verdict}
 use Rattle.cluster_model.specs.Openings.{GoodOpening, NamesOnce}
-use Rattle.cluster_histories.specs.Steps.{Setup, Done, Marked, answer, done, fallen_answer, happening, receives, history, step_marked, streams_after}
+use Rattle.cluster_model.specs.Steps.{Setup, Done, Marked, answer, done, fallen_answer, happening, receives, history, step_marked, streams_after}
 use Rattle.cluster_laws.specs.declared.item.Item.{Item}
 use Rattle.cluster_laws.specs.Items.{StandIn, call_of, items_sent, names_of, new_items}
 use Rattle.cluster_laws.specs.Parts.{IsSilent, Part, from_agent, part_of, parts_of}
-use Rattle.cluster_steps.specs.declared.verdict.Verdict as verdicts
-use Rattle.cluster_steps.specs.Verdicts.{fell}
+use Rattle.messages.specs.declared.steps.verdict.Verdict as verdicts
+use Rattle.messages.specs.Verdicts.{fell}
 use Rattle.cluster_agents.specs.Moves.{Makes, Reached, kept_agents, kept_part, sending}
 use Rattle.cluster_agents.proofs.Finding.{SameBut, one_changes}
 
 -- what the laws give
 pub record Laws : Type 0 where
-  pub once : (setup : Setup) (records : List Durable) (steps : List Marked) → GoodOpening setup.run records → NamesOnce (names_of (history setup records steps).state.world.channels)
-  pub stand : (setup : Setup) (records : List Durable) (steps : List Marked) (s : Marked) (d : Done) (sent : List Item) → GoodOpening setup.run records →
+  pub once : (setup : Setup) (records : List RecordParts) (steps : List Marked) → GoodOpening setup.run records → NamesOnce (names_of (history setup records steps).state.world.channels)
+  pub stand : (setup : Setup) (records : List RecordParts) (steps : List Marked) (s : Marked) (d : Done) (sent : List Item) → GoodOpening setup.run records →
       step_marked (history setup records steps).state s ≡ Ok d → StandIn (history setup records steps).state sent → StandIn d.after (sent ++ new_items s.step d)
   pub master : (c : Cluster) (verdict : Verdict) (agent : List ℕ) (step : AgentStep) → master_of (done c (happening c verdict (At agent (ByAgent step) ∷ []))).after ≡ master_of c
   pub one : (c : Cluster) (verdict : Verdict) (agent : List ℕ) (step : AgentStep) (place : ℕ) (x : Channel) → NamesOnce (names_of c.world.channels) → slice_get c.world.channels place ≡ Some x → x.side.name ≡ agent →
@@ -51,7 +51,7 @@ marked c m d room e = subst (λ (b : Bool). (if b then Err HistoryFull else (if 
 
 -- the law that the items stand for the posts after each step
 abbrev pub ItemsStand : Type 0
-ItemsStand = (setup : Setup) (records : List Durable) (steps : List Marked) (s : Marked) (d : Done) (sent : List Item) → GoodOpening setup.run records →
+ItemsStand = (setup : Setup) (records : List RecordParts) (steps : List Marked) (s : Marked) (d : Done) (sent : List Item) → GoodOpening setup.run records →
     step_marked (history setup records steps).state s ≡ Ok d → StandIn (history setup records steps).state sent → StandIn d.after (sent ++ new_items s.step d)
 
 pub items_by : ItemsStand → (c : Cluster) (m : Marked) (d : Done) (sent : List Item) → Reached c → (if m.fell then fallen_answer c m.step else answer c m.step) ≡ Ok d → StandIn c sent → StandIn d.after (sent ++ new_items m.step d)

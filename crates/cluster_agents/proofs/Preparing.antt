@@ -4,37 +4,37 @@ use Rattle.std.specs.Prelude.{if◌then◌else◌, ◌==◌, ◌⊎◌}
 use Rattle.std.specs.List.{AllByRecursion as Each, find, position_from}
 use Rattle.std.proofs.lemmas.Iterator.Adapters.{position_from-zero}
 use Rattle.std.proofs.lemmas.Bool.Decides.{nat_tests}
-use Rattle.mails.specs.declared.call.Call.{Call}
-use Rattle.mails.specs.declared.cause.Cause.{Cause}
-use Rattle.mails.specs.declared.cause.Cause.TheVariants as causes
-use Rattle.mails.specs.declared.mail.ToAgent.{ToAgent}
-use Rattle.mails.specs.declared.mail.ToMaster.{ToMaster}
-use Rattle.mails.specs.declared.mail.MasterMail.{MasterMail}
-use Rattle.mails.specs.declared.record.Durable.{Durable}
-use Rattle.mails.specs.declared.refusal.AgentRefusal.{AgentRefusal}
-use Rattle.mails.specs.declared.refusal.AgentRefusal.TheVariants.{NotForMe}
+use Rattle.messages.specs.declared.call.Call.{Call}
+use Rattle.messages.specs.declared.cause.Cause.{Cause}
+use Rattle.messages.specs.declared.cause.Cause.TheVariants as causes
+use Rattle.messages.specs.declared.mail.ToAgent.{ToAgent}
+use Rattle.messages.specs.declared.mail.ToMaster.{ToMaster}
+use Rattle.messages.specs.declared.mail.MasterMail.{MasterMail}
+use Rattle.messages.specs.declared.record.RecordParts.{RecordParts}
+use Rattle.messages.specs.declared.refusal.AgentRefusal.{AgentRefusal}
+use Rattle.messages.specs.declared.refusal.AgentRefusal.TheVariants.{NotForMe}
 use Rattle.names_core.specs.Ids.{Numbered}
 use Rattle.agent_core.specs.Drafts.{is_in_order}
 use Rattle.cluster_model.specs.Agents.{Draft, receives_mail, next_of, recovered}
 use Rattle.cluster_model.specs.Channels.{Channel, AgentStep, Draw, DrawMail, StopWithout, agent_step}
-use Rattle.cluster_histories.specs.Clusters.{Cluster, Post, Called, Down, Up}
-use Rattle.cluster_steps.specs.declared.step.Step.TheVariants.{Prepare}
-use Rattle.cluster_steps.specs.declared.step.Step.{Step}
-use Rattle.cluster_steps.specs.declared.fault.ClusterFault.{ClusterFault}
-use Rattle.cluster_steps.specs.declared.fault.ClusterFault.TheVariants.{AgentDown, DraftOpen, NoSuchAgent, NoSuchMail}
-use Rattle.cluster_steps.specs.declared.verdict.Verdict.TheVariants.{Ok as Fine, AgentRefused, OutOfMemory as Fell}
-use Rattle.cluster_steps.specs.declared.verdict.Verdict.{Verdict}
-use Rattle.cluster_histories.specs.Steps.{Setup, Done, Marked, answer, agent_falls, at_channel, by_draft, channel_of, done, drafts, draws_mail, draws_mail_at, does, happening, history, if_up, instead, post_at, prepares, without_draft}
+use Rattle.cluster_model.specs.Clusters.{Cluster, Post, Called, Down, Up}
+use Rattle.messages.specs.declared.steps.step.Step.TheVariants.{Prepare}
+use Rattle.messages.specs.declared.steps.step.Step.{Step}
+use Rattle.messages.specs.declared.steps.fault.ClusterFault.{ClusterFault}
+use Rattle.messages.specs.declared.steps.fault.ClusterFault.TheVariants.{AgentDown, DraftOpen, NoSuchAgent, NoSuchMail}
+use Rattle.messages.specs.declared.steps.verdict.Verdict.TheVariants.{Ok as Fine, AgentRefused, OutOfMemory as Fell}
+use Rattle.messages.specs.declared.steps.verdict.Verdict.{Verdict}
+use Rattle.cluster_model.specs.Steps.{Setup, Done, Marked, answer, agent_falls, at_channel, by_draft, channel_of, done, drafts, draws_mail, draws_mail_at, does, happening, history, if_up, instead, post_at, prepares, without_draft}
 use Rattle.cluster_laws.specs.declared.item.Item.{Item}
 use Rattle.cluster_laws.specs.declared.item.Item.TheVariants as items
 use Rattle.cluster_laws.specs.Items.{StandIn}
 use Rattle.cluster_laws.specs.Parts.{IsSilent, Part, part_of}
 use Rattle.cluster_laws.specs.Premises.{IsDown, IsUp}
-use Rattle.cluster_steps.specs.declared.verdict.Verdict as code
-use Rattle.cluster_steps.specs.declared.verdict.Verdict.TheVariants as verdicts
-use Rattle.cluster_steps.specs.declared.fault.ClusterFault.TheVariants as faults
-use Rattle.cluster_steps.specs.declared.step.StepCause.{StepCause}
-use Rattle.cluster_steps.specs.declared.step.StepCause.TheVariants.{Start, Again, Executor, Mail}
+use Rattle.messages.specs.declared.steps.verdict.Verdict as code
+use Rattle.messages.specs.declared.steps.verdict.Verdict.TheVariants as verdicts
+use Rattle.messages.specs.declared.steps.fault.ClusterFault.TheVariants as faults
+use Rattle.messages.specs.declared.steps.step.StepCause.{StepCause}
+use Rattle.messages.specs.declared.steps.step.StepCause.TheVariants.{Start, Again, Executor, Mail}
 use Rattle.cluster_agents.specs.Agents.{KeptAgent, agent_in, comes_up_without, drafted_in, goes_down, place_in, with_part}
 use Rattle.cluster_agents.specs.Causes.{Causes, Drawn, cause_due, for_it, item_at, mail_due, record_drawn, record_prepared}
 use Rattle.cluster_agents.specs.Handing.{MayRefuse, is_withheld}
@@ -45,7 +45,7 @@ use Rattle.cluster_agents.proofs.Committing.{if_it_is_down, if_it_is_up}
 
 pub record MoreLaws : Type 0 where
   pub laws : Laws
-  pub recorded : (setup : Setup) (records : List Durable) (steps : List Marked) → Each (λ x. x.agent.durable.name ≡ x.side.name) (history setup records steps).state.world.channels
+  pub recorded : (setup : Setup) (records : List RecordParts) (steps : List Marked) → Each (λ x. x.agent.durable.name ≡ x.side.name) (history setup records steps).state.world.channels
   pub calls : (c : Cluster) (sent : List Item) (n : ℕ) (stream : Option Numbered) (call : Call) → StandIn c sent → slice_get sent n ≡ Some (items.Call stream call) → slice_get c.posts n ≡ Some (Called stream call)
   pub to_agents : (c : Cluster) (sent : List Item) (n : ℕ) (to : ToAgent) → StandIn c sent → slice_get sent n ≡ Some (items.ToAgent to) → IsDown c n to
   pub to_master : (c : Cluster) (sent : List Item) (n : ℕ) (to : ToMaster) → StandIn c sent → slice_get sent n ≡ Some (items.ToMaster to) → IsUp c n to
@@ -149,7 +149,7 @@ drawing more c x (Mail n) given sent stand here recorded none due = draws_by_mai
 record Ready (c : Cluster) (name : List ℕ) (place : ℕ) (a : KeptAgent) : Type 0 where
   x : Channel
   there : slice_get c.world.channels place ≡ Some x
-  called : x.side.name ≡ name
+  call_effect : x.side.name ≡ name
   here : channel_of c x.side.name ≡ Some x
   is : a ≡ kept_part c.fallen (part_of x)
   none : x.draft ≡ None
@@ -162,11 +162,11 @@ ready c name place a e at is_up free = by (found c name place e)
     by f =
         let is : a ≡ kept_part c.fallen (part_of f.x) = kept_at c.fallen c.world.channels place f.x a f.there at in
         let none : f.x.draft ≡ None = ap (λ (b : KeptAgent). b.part.draft) (sym is) ∙ free in
-        let here : channel_of c f.x.side.name ≡ Some f.x = ap (channel_of c) f.called ∙ f.channel in
+        let here : channel_of c f.x.side.name ≡ Some f.x = ap (channel_of c) f.call_effect ∙ f.channel in
         record {
           x = f.x;
           there = f.there;
-          called = f.called;
+          call_effect = f.call_effect;
           here = here;
           is = is;
           none = none;
@@ -265,8 +265,8 @@ prepare_made more c name place a new cause given verdict sent r stand e at is_up
   where
     by : Ready c name place a → Makes c (Prepare name cause) verdict (sending []) (slice_set (kept_agents c) place new) sent
     by y =
-        let w : Drawing c y.x cause given = drawing more c y.x cause given sent stand y.here (named more c place y.x r y.there) y.none (ap (λ (n : List ℕ). cause_due sent n cause) y.called ∙ due) in
-        subst (λ (n : List ℕ). Makes c (Prepare n cause) verdict (sending []) (slice_set (kept_agents c) place new) sent) y.called (drawn_so more c name place a new cause given verdict sent r stand at y w how)
+        let w : Drawing c y.x cause given = drawing more c y.x cause given sent stand y.here (named more c place y.x r y.there) y.none (ap (λ (n : List ℕ). cause_due sent n cause) y.call_effect ∙ due) in
+        subst (λ (n : List ℕ). Makes c (Prepare n cause) verdict (sending []) (slice_set (kept_agents c) place new) sent) y.call_effect (drawn_so more c name place a new cause given verdict sent r stand at y w how)
 
 -- ---- a mail for another agent
 
@@ -297,8 +297,8 @@ pub prepare_astray : MoreLaws → (c : Cluster) (name : List ℕ) (place : ℕ) 
 prepare_astray more c name place a cause sent r stand e at is_up free due = by (ready c name place a e at is_up free)
   where
     by : Ready c name place a → Makes c (Prepare name cause) (verdicts.AgentRefused NotForMe) (sending []) (kept_agents c) sent
-    by y = subst (λ (n : List ℕ). Makes c (Prepare n cause) (verdicts.AgentRefused NotForMe) (sending []) (kept_agents c) sent) y.called
-        (stays more c (Prepare y.x.side.name cause) NotForMe sent r stand (y.asked cause ∙ strays_by more c y.x cause sent stand (ap (λ (n : List ℕ). cause_due sent n cause) y.called ∙ due)))
+    by y = subst (λ (n : List ℕ). Makes c (Prepare n cause) (verdicts.AgentRefused NotForMe) (sending []) (kept_agents c) sent) y.call_effect
+        (stays more c (Prepare y.x.side.name cause) NotForMe sent r stand (y.asked cause ∙ strays_by more c y.x cause sent stand (ap (λ (n : List ℕ). cause_due sent n cause) y.call_effect ∙ due)))
 
 -- ---- refusals
 
@@ -345,7 +345,7 @@ pub prepare_unsent : MoreLaws → (c : Cluster) (name : List ℕ) (place : ℕ) 
 prepare_unsent more c name place a cause sent stand e at is_up free due = by (ready c name place a e at is_up free)
   where
     by : Ready c name place a → answer c (Prepare name cause) ≡ Err NoSuchMail
-    by y = subst (λ (n : List ℕ). answer c (Prepare n cause) ≡ Err NoSuchMail) y.called (y.asked cause ∙ unsent_by more c y.x cause sent stand (ap (λ (n : List ℕ). cause_due sent n cause) y.called ∙ due))
+    by y = subst (λ (n : List ℕ). answer c (Prepare n cause) ≡ Err NoSuchMail) y.call_effect (y.asked cause ∙ unsent_by more c y.x cause sent stand (ap (λ (n : List ℕ). cause_due sent n cause) y.call_effect ∙ due))
 
 pub prepare_refused : MoreLaws → (c : Cluster) (name : List ℕ) (place : ℕ) (a : KeptAgent) (cause : StepCause) (fault : ClusterFault) (sent : List Item) → StandIn c sent → place_in name (kept_agents c) ≡ Some place → slice_get (kept_agents c) place ≡ Some a → a.is_down ≡ false → a.part.draft ≡ None →
     Causes (Err fault) (cause_due sent name cause) → Refuses c (Prepare name cause) fault
@@ -401,7 +401,7 @@ prepare_withheld c name place a (Executor key state) gives e at is_up free held 
 prepare_withheld c name place a (Mail n) gives e at is_up free held = by (ready c name place a e at is_up free)
   where
     by : Ready c name place a → MayRefuse c gives (Prepare name (Mail n)) faults.NoSuchMail
-    by y = subst (λ (m : List ℕ). MayRefuse c gives (Prepare m (Mail n)) faults.NoSuchMail) y.called (withheld_so c y.x.side.name y.x n gives (y.asked (Mail n)) (not_true (gives n) held))
+    by y = subst (λ (m : List ℕ). MayRefuse c gives (Prepare m (Mail n)) faults.NoSuchMail) y.call_effect (withheld_so c y.x.side.name y.x n gives (y.asked (Mail n)) (not_true (gives n) held))
 
 -- ---- the record of the draft that was opened
 
@@ -424,9 +424,9 @@ set_at name (a ∷ as_) i k e = by (is_called name a) refl e (λ f. set_at name 
         record {
           place = 0;
           is = omega (arith, at_once);
-          found = λ old new here called.
+          found = λ old new here call_effect.
               let is : a ≡ old = (let s : Some a ≡ Some old = here in cc) in
-              let name_is : is_called name new ≡ true = ap (λ (n : List ℕ). bytes_eq n name) (called ∙ ap (λ (z : KeptAgent). z.part.name) (sym is)) ∙ b in
+              let name_is : is_called name new ≡ true = ap (λ (n : List ℕ). bytes_eq n name) (call_effect ∙ ap (λ (z : KeptAgent). z.part.name) (sym is)) ∙ b in
               rw name_is refl;
         }
     by false b f rest =
@@ -434,16 +434,16 @@ set_at name (a ∷ as_) i k e = by (is_called name a) refl e (λ f. set_at name 
         record {
           place = suc s.place;
           is = (let h : k ≡ s.place + (i + 1) = s.is in omega (arith, h));
-          found = λ old new here called. rw b (s.found old new here called);
+          found = λ old new here call_effect. rw b (s.found old new here call_effect);
         }
 
 pub set_found : (name : List ℕ) (as_ : List KeptAgent) (place : ℕ) (old new : KeptAgent) → place_in name as_ ≡ Some place → slice_get as_ place ≡ Some old → new.part.name ≡ old.part.name → agent_in name (slice_set as_ place new) ≡ Some new
-set_found name as_ place old new e here called = made (set_at name as_ 0 place (sym (position_from-zero (is_called name) as_) ∙ e))
+set_found name as_ place old new e here call_effect = made (set_at name as_ 0 place (sym (position_from-zero (is_called name) as_) ∙ e))
   where
     made : SetAt name as_ 0 place → agent_in name (slice_set as_ place new) ≡ Some new
     made s =
         let same : s.place ≡ place = (let h : place ≡ s.place + 0 = s.is in omega (arith, h)) in
-        subst (λ (k : ℕ). slice_get as_ k ≡ Some old → find (is_called name) (slice_set as_ k new) ≡ Some new) same (λ h. s.found old new h called) here
+        subst (λ (k : ℕ). slice_get as_ k ≡ Some old → find (is_called name) (slice_set as_ k new) ≡ Some new) same (λ h. s.found old new h call_effect) here
 
 pub record_so : (verdict : code.Verdict) (name : List ℕ) (as_ : List KeptAgent) (new : KeptAgent) → agent_in name as_ ≡ Some new → record_drawn verdict new ≡ record_prepared verdict name as_
 record_so verdicts.Ok name as_ new e = sym (ap drafted_in e)

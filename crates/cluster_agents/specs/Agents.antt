@@ -1,9 +1,9 @@
 -- The agents of a cluster: each with its draft, and whether it is down.
 use Rattle.std.specs.Prelude.{◌≡◌, ℕ, Bool, true, false, List, Option, Some, None, option_map, position, Result, Ok, Err, bytes_eq, ⊤}
 use Rattle.std.specs.List.{find}
-use Rattle.mails.specs.declared.mail.AgentMail.{AgentMail}
-use Rattle.mails.specs.declared.record.Durable.{Durable}
-use Rattle.mails.specs.declared.refusal.AgentRefusal.{AgentRefusal}
+use Rattle.messages.specs.declared.mail.AgentMail.{AgentMail}
+use Rattle.messages.specs.declared.record.RecordParts.{RecordParts}
+use Rattle.messages.specs.declared.refusal.AgentRefusal.{AgentRefusal}
 use Rattle.cluster_model.specs.Agents.{Agent, Draft, recovered}
 use Rattle.agent_core.specs.Prepared.{Prepared}
 use Rattle.cluster_laws.specs.Parts.{Part}
@@ -62,18 +62,18 @@ abbrev pub agent_in : List ℕ → List KeptAgent → Option KeptAgent
 agent_in name agents = find (λ a. bytes_eq a.part.name name) agents
 
 -- the record of an agent's open draft
-abbrev pub drafted : KeptAgent → Option Durable
+abbrev pub drafted : KeptAgent → Option RecordParts
 drafted a = option_map (λ d. d.after.durable) a.part.draft
 
-abbrev pub drafted_in : Option KeptAgent → Option Durable
+abbrev pub drafted_in : Option KeptAgent → Option RecordParts
 drafted_in None = None
 drafted_in (Some a) = drafted a
 
 -- an agent's record
-abbrev pub recorded : KeptAgent → Durable
+abbrev pub recorded : KeptAgent → RecordParts
 recorded a = a.part.agent.durable
 
-abbrev pub recorded_in : Option KeptAgent → Option Durable
+abbrev pub recorded_in : Option KeptAgent → Option RecordParts
 recorded_in None = None
 recorded_in (Some a) = Some (recorded a)
 

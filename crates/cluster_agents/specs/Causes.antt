@@ -1,19 +1,19 @@
 -- What an agent receives: a cause of its own, or a mail of a number.
 use Rattle.std.specs.Prelude.{◌≡◌, ◌-◌, ℕ, ◌==◌, if◌then◌else◌, List, slice_get, Option, Some, None, Result, Ok, Err, bytes_eq, ⊤}
-use Rattle.mails.specs.declared.cause.Cause.{Cause}
-use Rattle.mails.specs.declared.cause.Cause.TheVariants as causes
-use Rattle.mails.specs.declared.mail.ToAgent.{ToAgent}
-use Rattle.mails.specs.declared.record.Durable.{Durable}
-use Rattle.mails.specs.declared.refusal.AgentRefusal.{AgentRefusal}
+use Rattle.messages.specs.declared.cause.Cause.{Cause}
+use Rattle.messages.specs.declared.cause.Cause.TheVariants as causes
+use Rattle.messages.specs.declared.mail.ToAgent.{ToAgent}
+use Rattle.messages.specs.declared.record.RecordParts.{RecordParts}
+use Rattle.messages.specs.declared.refusal.AgentRefusal.{AgentRefusal}
 use Rattle.cluster_model.specs.Agents.{Draft}
-use Rattle.cluster_steps.specs.declared.verdict.Verdict.{Verdict}
-use Rattle.cluster_steps.specs.declared.verdict.Verdict.TheVariants as verdicts
+use Rattle.messages.specs.declared.steps.verdict.Verdict.{Verdict}
+use Rattle.messages.specs.declared.steps.verdict.Verdict.TheVariants as verdicts
 use Rattle.cluster_laws.specs.declared.item.Item.{Item}
 use Rattle.cluster_laws.specs.declared.item.Item.TheVariants as items
-use Rattle.cluster_steps.specs.declared.fault.ClusterFault.{ClusterFault}
-use Rattle.cluster_steps.specs.declared.fault.ClusterFault.TheVariants.{NoSuchMail, MasterDown, AgentDown, DraftOpen, NoDraft, HistoryFull, TimeBack, NoSuchAgent, OutOfMemory}
-use Rattle.cluster_steps.specs.declared.step.StepCause.{StepCause}
-use Rattle.cluster_steps.specs.declared.step.StepCause.TheVariants.{Start, Again, Executor, Mail}
+use Rattle.messages.specs.declared.steps.fault.ClusterFault.{ClusterFault}
+use Rattle.messages.specs.declared.steps.fault.ClusterFault.TheVariants.{NoSuchMail, MasterDown, AgentDown, DraftOpen, NoDraft, HistoryFull, TimeBack, NoSuchAgent, OutOfMemory}
+use Rattle.messages.specs.declared.steps.step.StepCause.{StepCause}
+use Rattle.messages.specs.declared.steps.step.StepCause.TheVariants.{Start, Again, Executor, Mail}
 use Rattle.cluster_agents.specs.Agents.{KeptAgent, Draws, agent_in, comes_up_without, drafted, drafted_in, goes_down}
 
 -- what was sent under a number, from 1
@@ -72,14 +72,14 @@ Drawn (verdicts.AgentRefused refusal) old new due = Draws (Some refusal) old new
 Drawn verdicts.OutOfMemory old new due = new ≡ goes_down (comes_up_without old)
 
 -- the record that goes with a draft that was opened
-abbrev pub record_drawn : Verdict → KeptAgent → Option Durable
+abbrev pub record_drawn : Verdict → KeptAgent → Option RecordParts
 record_drawn verdicts.Ok a = drafted a
 record_drawn (verdicts.MasterRefused refusal) a = None
 record_drawn (verdicts.AgentRefused refusal) a = None
 record_drawn verdicts.OutOfMemory a = None
 
 -- the same, of the agent of a name
-abbrev pub record_prepared : Verdict → List ℕ → List KeptAgent → Option Durable
+abbrev pub record_prepared : Verdict → List ℕ → List KeptAgent → Option RecordParts
 record_prepared verdicts.Ok name agents = drafted_in (agent_in name agents)
 record_prepared (verdicts.MasterRefused refusal) name agents = None
 record_prepared (verdicts.AgentRefused refusal) name agents = None

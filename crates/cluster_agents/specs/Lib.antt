@@ -4,3 +4,6 @@ pub mod Moves
 pub mod Sending
 pub mod Handing
 pub mod Outcomes
+pub mod Records
+pub mod Fresh
+pub mod Openable

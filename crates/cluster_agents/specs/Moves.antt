@@ -1,32 +1,32 @@
 -- What a step makes of the agents and of all that was sent, and what it leaves as it was.
 use Rattle.std.specs.Prelude.{◌≡◌, ℕ, false, true, nat_le, if◌then◌else◌, List, [], map, Some, None, Ok, Err, bytes_eq, slice_get, ⊤}
 use Rattle.std.specs.List.{AllByRecursion as Each, list_any}
-use Rattle.mails.specs.declared.record.Durable.{Durable}
-use Rattle.mails.specs.declared.cause.Cause.TheVariants.{Mail}
-use Rattle.mails.specs.declared.mail.ToAgent.{ToAgent}
+use Rattle.messages.specs.declared.record.RecordParts.{RecordParts}
+use Rattle.messages.specs.declared.cause.Cause.TheVariants.{Mail}
+use Rattle.messages.specs.declared.mail.ToAgent.{ToAgent}
 use Rattle.agent_core.specs.Drafts.{is_in_order}
 use Rattle.cluster_model.specs.Ids.{last_number}
-use Rattle.cluster_histories.specs.Clusters.{Cluster, master_of}
-use Rattle.cluster_steps.specs.declared.step.Step.{Step}
-use Rattle.cluster_steps.specs.declared.fault.ClusterFault.TheVariants.{OutOfMemory}
+use Rattle.cluster_model.specs.Clusters.{Cluster, master_of}
+use Rattle.messages.specs.declared.steps.step.Step.{Step}
+use Rattle.messages.specs.declared.steps.fault.ClusterFault.TheVariants.{OutOfMemory}
 use Rattle.cluster_model.specs.Openings.{GoodOpening}
-use Rattle.cluster_histories.specs.Steps.{Setup, Done, Marked, answer, fallen_answer, history}
+use Rattle.cluster_model.specs.Steps.{Setup, Done, Marked, answer, fallen_answer, history}
 use Rattle.cluster_laws.specs.declared.item.Item.{Item}
 use Rattle.cluster_laws.specs.Items.{StandIn}
 use Rattle.cluster_laws.specs.Parts.{Part, parts_of}
 use Rattle.cluster_laws.specs.Premises.{AreRecorded}
 use Rattle.cluster_laws.specs.declared.item.Item.TheVariants as items
-use Rattle.cluster_entries.specs.declared.entry.Outputs.{Outputs}
-use Rattle.cluster_steps.specs.declared.verdict.Sent.{Sent}
-use Rattle.cluster_steps.specs.declared.verdict.Verdict.{Verdict}
-use Rattle.cluster_steps.specs.declared.fault.ClusterFault.{ClusterFault}
-use Rattle.cluster_steps.specs.Verdicts.{fell}
+use Rattle.messages.specs.declared.entries.entry.Outputs.{Outputs}
+use Rattle.messages.specs.declared.steps.verdict.Sent.{Sent}
+use Rattle.messages.specs.declared.steps.verdict.Verdict.{Verdict}
+use Rattle.messages.specs.declared.steps.fault.ClusterFault.{ClusterFault}
+use Rattle.messages.specs.Verdicts.{fell}
 use Rattle.cluster_agents.specs.Agents.{KeptAgent, place_in}
 
 -- a state that is reached from a good opening, where the history has room for one more entry
 pub record Reached (c : Cluster) : Type 0 where
   pub setup : Setup
-  pub records : List Durable
+  pub records : List RecordParts
   pub steps : List Marked
   pub good : GoodOpening setup.run records
   pub recorded : AreRecorded records

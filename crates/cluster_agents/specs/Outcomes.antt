@@ -1,8 +1,8 @@
 -- A step that ended, and has no outputs.
 use Rattle.std.specs.Prelude.{[], None}
-use Rattle.cluster_steps.specs.declared.verdict.Verdict.{Verdict}
+use Rattle.messages.specs.declared.steps.verdict.Verdict.{Verdict}
 use Rattle.cluster_agents.specs.Moves.{sending}
-use Rattle.cluster_agents.specs.declared.outcomes.Made.{Made}
+use Rattle.cluster_agents.specs.declared.outcomes.StepOutcome.{StepOutcome}
 
-abbrev pub ends_with : Verdict → Made
+abbrev pub ends_with : Verdict → StepOutcome
 ends_with verdict = record { verdict = verdict; outputs = sending []; durable = None }

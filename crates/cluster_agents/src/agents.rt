@@ -4,16 +4,15 @@ ghost use Rattle.std.specs.Prelude.{◌≡◌, ◌<◌, false, true, length, opt
 ghost use Rattle.agent_core.specs.Drafts.{is_in_order};
 ghost use Rattle.cluster_model.specs.Agents.{next_of};
 ghost use Rattle.cluster_laws.specs.Parts.{recovered_part};
-ghost use Rattle.cluster_steps.specs.declared.fault.ClusterFault.TheVariants.{NoSuchAgent};
+ghost use Rattle.messages.specs.declared.steps.fault.ClusterFault.TheVariants.{NoSuchAgent};
 ghost use Rattle.cluster_agents.specs.Agents.{AdoptsOne, Draws, comes_up_with, comes_up_without, goes_down, place_in};
 
 use agent_core::{Agent, AgentFault, Draft, Record};
-use cluster_steps::ClusterFault;
-use mails::{AgentMail, AgentRefusal, Cause};
+use messages::{AgentMail, AgentRefusal, Cause, ClusterFault};
 use names_core::AgentName;
-use plain_data::Plain;
 use std::alloc::{AllocError, Global};
 use std::marker::Model;
+use values::Plain;
 
 /// An agent with its open draft, if there is one, and whether it is down.
 #[derive(Drop)]

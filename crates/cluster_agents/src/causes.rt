@@ -4,11 +4,10 @@ ghost use Rattle.std.specs.Prelude.{◌≡◌, option_map};
 ghost use Rattle.cluster_agents.specs.Causes.{Causes, ForIt, cause_due, for_it, item_at};
 
 use cluster_laws::Item;
-use cluster_steps::{ClusterFault, StepCause};
-use mails::{Cause, ToAgent};
+use messages::{Cause, ClusterFault, StepCause, ToAgent};
 use names_core::AgentName;
-use plain_data::Plain;
 use std::alloc::Global;
+use values::Plain;
 
 /// The item of a number, from 1.
 pub fn item_at(items: &[Item], number: u64) -> Option<&Item>

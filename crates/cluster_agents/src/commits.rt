@@ -6,13 +6,10 @@ ghost use Rattle.cluster_agents.specs.Sending.{BringsNothing, BringsOut, item_fr
 use crate::agents::ClusterAgent;
 use crate::outcomes::Outgoing;
 use cluster_laws::Item;
-use cluster_steps::{ClusterFault, Sent};
-use listed::Listed;
-use mails::{AgentMail, ToMaster};
+use messages::{AgentMail, ClusterFault, Sent, ToMaster};
 use names_core::AgentName;
-use plain_data::Plain;
-use shared_value::Shared;
 use std::alloc::{AllocError, Global};
+use values::{Listed, Plain, Shared};
 
 fn to_master(name: &AgentName, mail: &AgentMail) -> Result<ToMaster, AllocError>
     ensures { IfOk result (λ to. to ≡ record { agent = name.now; mail = mail.now }) }

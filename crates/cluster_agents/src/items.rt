@@ -3,9 +3,9 @@
 ghost use Rattle.std.specs.Prelude.{◌≡◌, ◌++◌, [], take, OnOk, OnErr};
 
 use cluster_laws::Item;
-use listed::Listed;
 use std::alloc::{AllocError, Global};
 use std::marker::Model;
+use values::Listed;
 
 /// All calls and mails that were ever sent, in the order of sending:
 /// number n is at place n - 1.

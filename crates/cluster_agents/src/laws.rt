@@ -9,16 +9,16 @@ ghost use Rattle.cluster_agents.specs.Sending.{item_from, sent_from};
 ghost use Rattle.cluster_laws.specs.Items.{StandIn};
 ghost use Rattle.cluster_laws.specs.declared.item.Item.{Item};
 ghost use Rattle.cluster_model.specs.Agents.{Draft, next_of};
-ghost use Rattle.cluster_histories.specs.Clusters.{Cluster};
-ghost use Rattle.cluster_steps.specs.declared.step.Step.TheVariants.{Commit, Prepare, StopAgent};
-ghost use Rattle.cluster_steps.specs.declared.step.Keep.TheVariants.{After, Before};
-ghost use Rattle.cluster_steps.specs.declared.verdict.Verdict.TheVariants as verdicts;
-ghost use Rattle.cluster_steps.specs.declared.fault.ClusterFault.TheVariants.{AgentDown, DraftOpen, NoDraft, NoSuchAgent, NoSuchMail};
-ghost use Rattle.cluster_steps.specs.declared.fault.ClusterFault.{ClusterFault};
-ghost use Rattle.cluster_steps.specs.declared.verdict.Verdict.{Verdict};
-ghost use Rattle.cluster_steps.specs.declared.step.StepCause.{StepCause};
-ghost use Rattle.mails.specs.declared.cause.Cause.{Cause};
-ghost use Rattle.mails.specs.declared.refusal.AgentRefusal.TheVariants.{NotForMe};
+ghost use Rattle.cluster_model.specs.Clusters.{Cluster};
+ghost use Rattle.messages.specs.declared.steps.step.Step.TheVariants.{Commit, Prepare, StopAgent};
+ghost use Rattle.messages.specs.declared.steps.step.Keep.TheVariants.{After, Before};
+ghost use Rattle.messages.specs.declared.steps.verdict.Verdict.TheVariants as verdicts;
+ghost use Rattle.messages.specs.declared.steps.fault.ClusterFault.TheVariants.{AgentDown, DraftOpen, NoDraft, NoSuchAgent, NoSuchMail};
+ghost use Rattle.messages.specs.declared.steps.fault.ClusterFault.{ClusterFault};
+ghost use Rattle.messages.specs.declared.steps.verdict.Verdict.{Verdict};
+ghost use Rattle.messages.specs.declared.steps.step.StepCause.{StepCause};
+ghost use Rattle.messages.specs.declared.cause.Cause.{Cause};
+ghost use Rattle.messages.specs.declared.refusal.AgentRefusal.TheVariants.{NotForMe};
 
 use cluster_laws::{
     agents_keep_their_names, agents_leave_the_others, commits_send_drafts, items_are_posts,

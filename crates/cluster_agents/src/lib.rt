@@ -7,6 +7,7 @@ mod causes;
 mod commits;
 mod items;
 mod laws;
+mod openings;
 mod outcomes;
 mod prepares;
 
@@ -15,5 +16,8 @@ pub use causes::{cause_due, item_at};
 pub use commits::draft_mails;
 pub use items::Items;
 pub use laws::{commits_are_made, prepares_are_made, stops_are_made};
-pub use outcomes::{Made, Outgoing, ends_with, made_sending};
+pub use openings::{
+    fresh_agents_open, fresh_records, good_opening, put_in_order, records_are_recorded,
+};
+pub use outcomes::{Outgoing, StepOutcome, ends_with, made_sending};
 pub use prepares::{draw, is_withheld};

@@ -3,18 +3,17 @@
 ghost use Rattle.std.specs.Prelude.{◌≡◌};
 ghost use Rattle.cluster_agents.specs.Moves.{sending};
 ghost use Rattle.cluster_agents.specs.Outcomes.{ends_with};
-ghost use Rattle.cluster_steps.specs.declared.verdict.Verdict.TheVariants as verdicts;
+ghost use Rattle.messages.specs.declared.steps.verdict.Verdict.TheVariants as verdicts;
 
 use agent_core::Record;
-use cluster_entries::Outputs;
 use cluster_laws::Item;
-use cluster_steps::{Sent, Verdict};
-use listed::Listed;
+use messages::{Outputs, Sent, Verdict};
 use std::alloc::Global;
+use values::Listed;
 
 /// How a step ended and what it output: its entry, but for the step.
 #[derive(Drop)]
-pub struct Made {
+pub struct StepOutcome {
     pub verdict: Verdict,
     pub outputs: Outputs,
     /// A copy of the record of the draft that the step opened.
@@ -41,10 +40,10 @@ pub fn sending(alloc: Global, sent: Listed<Sent>) -> Outputs
 }
 
 /// A step that was taken and only sends.
-pub fn made_sending(alloc: Global, sent: Listed<Sent>) -> Made
+pub fn made_sending(alloc: Global, sent: Listed<Sent>) -> StepOutcome
     ensures { result ≡ record { verdict = verdicts.Ok; outputs = sending sent; durable = None } }
 {
-    Made {
+    StepOutcome {
         verdict: Verdict::Ok,
         outputs: sending(alloc, sent),
         durable: None,
@@ -52,10 +51,10 @@ pub fn made_sending(alloc: Global, sent: Listed<Sent>) -> Made
 }
 
 /// A step that ended in this way and has no outputs.
-pub fn ends_with(alloc: Global, verdict: Verdict) -> Made
+pub fn ends_with(alloc: Global, verdict: Verdict) -> StepOutcome
     ensures { result ≡ ends_with verdict }
 {
-    Made {
+    StepOutcome {
         verdict,
         outputs: sending(alloc, Listed::new(alloc)),
         durable: None,

@@ -8,17 +8,15 @@ ghost use Rattle.cluster_agents.specs.Handing.{is_withheld};
 ghost use Rattle.cluster_agents.specs.Moves.{sending};
 ghost use Rattle.cluster_agents.specs.Outcomes.{ends_with};
 ghost use Rattle.cluster_model.specs.Agents.{next_of};
-ghost use Rattle.cluster_steps.specs.declared.verdict.Verdict.TheVariants as verdicts;
+ghost use Rattle.messages.specs.declared.steps.verdict.Verdict.TheVariants as verdicts;
 
 use crate::agents::ClusterAgent;
-use crate::outcomes::{Made, ends_with, sending};
+use crate::outcomes::{StepOutcome, ends_with, sending};
 use agent_core::Record;
-use cluster_steps::{StepCause, Verdict};
-use listed::Listed;
-use mails::Cause;
-use plain_data::Plain;
-use post_rules::Post;
+use cluster_channels::Post;
+use messages::{Cause, StepCause, Verdict};
 use std::alloc::{AllocError, Global};
+use values::{Listed, Plain};
 
 /// A copy of the record of an agent's open draft.
 fn draft_record(agent: &ClusterAgent) -> Result<Option<Record>, AllocError>
@@ -31,7 +29,7 @@ fn draft_record(agent: &ClusterAgent) -> Result<Option<Record>, AllocError>
 }
 
 /// The agent runs out of memory, and is down over its record.
-fn run_out(agent: &mut ClusterAgent, alloc: Global) -> Made
+fn run_out(agent: &mut ClusterAgent, alloc: Global) -> StepOutcome
     ensures agent { agent.new ≡ goes_down (comes_up_without agent.old) }
     ensures made { result ≡ ends_with verdicts.OutOfMemory }
 {
@@ -41,7 +39,7 @@ fn run_out(agent: &mut ClusterAgent, alloc: Global) -> Made
 }
 
 /// Opens a draft of a cause, and copies its record. An agent that runs out of memory is down.
-pub fn draw(agent: &mut ClusterAgent, alloc: Global, cause: Cause) -> Made
+pub fn draw(agent: &mut ClusterAgent, alloc: Global, cause: Cause) -> StepOutcome
     requires none { agent.old.part.draft ≡ None }
     requires order { is_in_order agent.old.part.agent cause ≡ true }
     ensures drawn { Drawn result.verdict agent.old agent.new (next_of agent.old.part.agent cause) }
@@ -51,7 +49,7 @@ pub fn draw(agent: &mut ClusterAgent, alloc: Global, cause: Cause) -> Made
 {
     match agent.prepare(alloc, cause) {
         Ok(None) => match draft_record(agent) {
-            Ok(durable) => Made {
+            Ok(durable) => StepOutcome {
                 verdict: Verdict::Ok,
                 outputs: sending(alloc, Listed::new(alloc)),
                 durable,

@@ -5,3 +5,4 @@ pub mod Puttings
 pub mod RunSteps
 pub mod SafeStories
 pub mod Telling
+pub mod Firsts

@@ -5,33 +5,33 @@ use Rattle.std.specs.List.{find, position_from}
 use Rattle.std.proofs.lemmas.Bool.{eq-eqb, eqb-true}
 use Rattle.std.proofs.lemmas.Iterator.Adapters.{position_from-zero}
 use Rattle.std.proofs.lemmas.Option.{slice_get-map, slice_get_cases, slice_get_within}
-use Rattle.agent_sides.specs.declared.config.ConfiguredAgent.{ConfiguredAgent}
-use Rattle.mails.specs.declared.mail.AgentMail.{AgentMail}
-use Rattle.mails.specs.declared.mail.MasterMail.{MasterMail}
-use Rattle.mails.specs.declared.mail.ToAgent.{ToAgent}
-use Rattle.mails.specs.declared.mail.ToMaster.{ToMaster}
-use Rattle.mails.specs.declared.record.Durable.{Durable}
+use Rattle.master_agents.specs.declared.config.ConfiguredAgent.{ConfiguredAgent}
+use Rattle.messages.specs.declared.mail.AgentMail.{AgentMail}
+use Rattle.messages.specs.declared.mail.MasterMail.{MasterMail}
+use Rattle.messages.specs.declared.mail.ToAgent.{ToAgent}
+use Rattle.messages.specs.declared.mail.ToMaster.{ToMaster}
+use Rattle.messages.specs.declared.record.RecordParts.{RecordParts}
 use Rattle.cluster_model.specs.Channels.{Channel}
-use Rattle.cluster_histories.specs.Clusters as model
-use Rattle.cluster_histories.specs.Clusters.{Cluster, Down, Up}
-use Rattle.cluster_histories.specs.Steps.{Setup, Marked, history, marked_of, post_at}
+use Rattle.cluster_model.specs.Clusters as model
+use Rattle.cluster_model.specs.Clusters.{Cluster, Down, Up}
+use Rattle.cluster_model.specs.Steps.{Setup, Marked, history, marked_of, post_at}
 use Rattle.cluster_laws.specs.Items.{StandIn, channel_at, down_item, item_of, names_of, to_agent, to_master, up_item}
 use Rattle.cluster_laws.specs.Premises.{IsDown, IsUp}
 use Rattle.cluster_laws.specs.declared.item.Item.{Item}
 use Rattle.cluster_laws.specs.declared.item.Item.TheVariants as items
-use Rattle.cluster_entries.specs.declared.entry.Outputs.{Outputs}
-use Rattle.post_rules.specs.declared.direction.Direction.{Direction}
-use Rattle.post_rules.specs.declared.direction.Direction.TheVariants as ways
-use Rattle.post_rules.specs.Numbers.{handed_out_was_put}
-use Rattle.post_rules.specs.Queueing.{IsFirstWaiting, direction_in, hands_out, is_next, nothing_waits, same_queue}
-use Rattle.post_rules.specs.Queueing as queue
-use Rattle.post_rules.proofs.Lists.{each_passes}
+use Rattle.messages.specs.declared.entries.entry.Outputs.{Outputs}
+use Rattle.cluster_channels.specs.declared.posts.direction.Direction.{Direction}
+use Rattle.cluster_channels.specs.declared.posts.direction.Direction.TheVariants as ways
+use Rattle.cluster_channels.specs.Numbers.{handed_out_was_put}
+use Rattle.cluster_channels.specs.Queueing.{IsFirstWaiting, direction_in, hands_out, is_next, nothing_waits, same_queue}
+use Rattle.cluster_channels.specs.Queueing as queue
+use Rattle.cluster_channels.proofs.Lists.{each_passes}
 use Rattle.cluster_agents.proofs.Finding.{bytes_same}
 use Rattle.cluster_core.specs.Keeping.{IsKept}
 use Rattle.cluster_core.specs.Putting.{ArePut, direction_of, place_in, place_or_end}
 use Rattle.cluster_core.specs.Reading.{IsNextFrom, IsNextTo, NoneFrom, NoneTo}
 use Rattle.cluster_core.specs.Stories.{Story, state_of}
-use Rattle.cluster_parts.specs.declared.parts.Parts.{Parts}
+use Rattle.cluster_parts.specs.declared.parts.ClusterState.{ClusterState}
 
 -- ---- names and places
 
@@ -108,9 +108,9 @@ pub record Queued (c : Cluster) (agents : List ConfiguredAgent) (sent : List Ite
 
 -- the law that the agents keep their names
 abbrev pub NamesLaw : Type 0
-NamesLaw = (setup : Setup) (records : List Durable) (steps : List Marked) → names_of (history setup records steps).state.world.channels ≡ map (λ d. d.name) records
+NamesLaw = (setup : Setup) (records : List RecordParts) (steps : List Marked) → names_of (history setup records steps).state.world.channels ≡ map (λ d. d.name) records
 
-pub queued_so : {T : Type 0} → NamesLaw → (s : Story) (opened : Outputs) (p : Parts T) (queued : List queue.Item) → IsKept s opened p (length queued) (direction_in queued) → Queued (state_of s) p.config p.served.items queued
+pub queued_so : {T : Type 0} → NamesLaw → (s : Story) (opened : Outputs) (p : ClusterState T) (queued : List queue.Item) → IsKept s opened p (length queued) (direction_in queued) → Queued (state_of s) p.config p.served.items queued
 queued_so law s opened p queued k = record {
   stand = k.stands.as_others.as_items;
   counted = k.counted;

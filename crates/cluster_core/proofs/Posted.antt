@@ -3,15 +3,15 @@ use Rattle.std.proofs.Common.{◌≡◌, ◌<◌, ◌≤◌, ℕ, zero, suc, Boo
 use Rattle.std.specs.Prelude.{if◌then◌else◌}
 use Rattle.cluster_model.specs.Agents.{Draft}
 use Rattle.cluster_model.specs.Channels.{Channel}
-use Rattle.cluster_histories.specs.Clusters.{Cluster, Post}
-use Rattle.cluster_steps.specs.declared.step.Step.{Step}
-use Rattle.cluster_steps.specs.declared.fault.ClusterFault.{ClusterFault}
-use Rattle.cluster_steps.specs.declared.step.Step.TheVariants.{Send, Deliver, Allocate, Tick, LoseAgent, HangUp, Prepare, Commit, StopAgent, StopMaster, Take}
-use Rattle.cluster_steps.specs.declared.step.Keep.TheVariants.{Before, After}
-use Rattle.cluster_steps.specs.declared.step.StepCause.TheVariants.{Start as ByStart, Again as ByAgain, Executor as ByExecutor, Mail as ByMail}
-use Rattle.cluster_steps.specs.declared.fault.ClusterFault.TheVariants.{AgentDown, DraftOpen, HistoryFull, MasterDown}
+use Rattle.cluster_model.specs.Clusters.{Cluster, Post}
+use Rattle.messages.specs.declared.steps.step.Step.{Step}
+use Rattle.messages.specs.declared.steps.fault.ClusterFault.{ClusterFault}
+use Rattle.messages.specs.declared.steps.step.Step.TheVariants.{Send, Deliver, Allocate, Tick, LoseAgent, HangUp, Prepare, Commit, StopAgent, StopMaster, Take}
+use Rattle.messages.specs.declared.steps.step.Keep.TheVariants.{Before, After}
+use Rattle.messages.specs.declared.steps.step.StepCause.TheVariants.{Start as ByStart, Again as ByAgain, Executor as ByExecutor, Mail as ByMail}
+use Rattle.messages.specs.declared.steps.fault.ClusterFault.TheVariants.{AgentDown, DraftOpen, HistoryFull, MasterDown}
 use Rattle.cluster_model.specs.Ids.{last_number}
-use Rattle.cluster_histories.specs.Steps.{Done, answer, at_channel, by_draft, channel_of, delivers, draws_mail, if_up, is_fallen, post_at, prepares, without_draft}
+use Rattle.cluster_model.specs.Steps.{Done, answer, at_channel, by_draft, channel_of, delivers, draws_mail, if_up, is_fallen, post_at, prepares, without_draft}
 use Rattle.cluster_laws.specs.Items.{StandIn, item_of}
 use Rattle.cluster_laws.specs.declared.item.Item.{Item}
 use Rattle.cluster_agents.specs.Handing.{handed}

@@ -6,26 +6,26 @@ use Rattle.std.proofs.lemmas.Iterator.Adapters.{position_from-zero}
 use Rattle.std.specs.Option.{option_map}
 use Rattle.std.proofs.lemmas.Bool.Decides.{leb_tells}
 use Rattle.std.proofs.lemmas.Option.{slice_get-get_or, slice_get_within}
-use Rattle.agent_sides.specs.Configs.{names_of}
-use Rattle.agent_sides.specs.declared.config.ConfiguredAgent.{ConfiguredAgent}
-use Rattle.mails.specs.declared.record.Durable.{Durable}
+use Rattle.master_agents.specs.Configs.{names_of}
+use Rattle.master_agents.specs.declared.config.ConfiguredAgent.{ConfiguredAgent}
+use Rattle.messages.specs.declared.record.RecordParts.{RecordParts}
 use Rattle.cluster_model.specs.Channels.{Channel}
-use Rattle.cluster_histories.specs.Clusters.{Cluster, Post, Called, Down, Up}
+use Rattle.cluster_model.specs.Clusters.{Cluster, Post, Called, Down, Up}
 use Rattle.cluster_model.specs.Openings.{GoodOpening}
-use Rattle.cluster_histories.specs.Steps.{Setup, Done, Marked, history, step_marked}
+use Rattle.cluster_model.specs.Steps.{Setup, Done, Marked, history, step_marked}
 use Rattle.cluster_laws.specs.Items.{Stand, StandIn, channel_at, down_item, item_of, new_items, to_agent, to_master, up_item}
 use Rattle.cluster_laws.specs.Parts.{AreAgentsOf, configured}
 use Rattle.cluster_laws.specs.declared.item.Item.{Item}
 use Rattle.cluster_laws.specs.declared.item.Item.TheVariants as items
-use Rattle.post_rules.specs.declared.direction.Direction.{Direction}
-use Rattle.post_rules.specs.declared.direction.Direction.TheVariants.{ToAgent, FromAgent}
+use Rattle.cluster_channels.specs.declared.posts.direction.Direction.{Direction}
+use Rattle.cluster_channels.specs.declared.posts.direction.Direction.TheVariants.{ToAgent, FromAgent}
 use Rattle.cluster_core.specs.Keeping.{known_opened}
 use Rattle.cluster_core.specs.Putting.{ArePut, IsPut, Puts, direction_of, place_in, place_or_end, way_of}
 use Rattle.cluster_core.specs.Stories.{Story, state_of}
 
 -- the law that a step sends its items behind those that were sent before
 abbrev pub ItemsLaw : Type 0
-ItemsLaw = (setup : Setup) (records : List Durable) (steps : List Marked) (s : Marked) (d : Done) (sent : List Item) → GoodOpening setup.run records →
+ItemsLaw = (setup : Setup) (records : List RecordParts) (steps : List Marked) (s : Marked) (d : Done) (sent : List Item) → GoodOpening setup.run records →
     step_marked (history setup records steps).state s ≡ Ok d → StandIn (history setup records steps).state sent → StandIn d.after (sent ++ new_items s.step d)
 
 -- ---- items are what stands for the posts
@@ -138,7 +138,7 @@ way_alike as_ bs e (Called stream call) = refl
 way_alike as_ bs e (Down agent place) = ap ToAgent (ends_alike agent as_ bs e)
 way_alike as_ bs e (Up agent place) = ap FromAgent (ends_alike agent as_ bs e)
 
-configured_names : (records : List Durable) → names_of (map configured records) ≡ map (λ (d : Durable). d.name) records
+configured_names : (records : List RecordParts) → names_of (map configured records) ≡ map (λ (d : RecordParts). d.name) records
 configured_names [] = refl
 configured_names (d ∷ ds) = ap (λ (names : List (List ℕ)). d.name ∷ names) (configured_names ds)
 
@@ -146,7 +146,7 @@ all_alike : (f g : Post → Direction) → ((p : Post) → f p ≡ g p) → (ps 
 all_alike f g same [] = refl
 all_alike f g same (p ∷ ps) = ap (λ (d : Direction). d ∷ map f ps) (same p) ∙ ap (λ (ds : List Direction). g p ∷ ds) (all_alike f g same ps)
 
-pub ways_by_names : (as_ : List ConfiguredAgent) (records : List Durable) (ps : List Post) → AreAgentsOf as_ records → map (way_of as_) ps ≡ map (way_of (map configured records)) ps
+pub ways_by_names : (as_ : List ConfiguredAgent) (records : List RecordParts) (ps : List Post) → AreAgentsOf as_ records → map (way_of as_) ps ≡ map (way_of (map configured records)) ps
 ways_by_names as_ records ps e = all_alike (way_of as_) (way_of (map configured records)) (way_alike as_ (map configured records) (e ∙ sym (configured_names records))) ps
 
 -- what was put behind is what was sent since

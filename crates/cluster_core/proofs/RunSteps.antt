@@ -2,14 +2,14 @@
 use Rattle.std.proofs.Common.{◌≡◌, ◌<◌, ◌≤◌, ℕ, Bool, true, false, List, [], ◌∷◌, ◌++◌, map, length, Result, Ok, Err, inl, inr, refl, sym, ap, ◌∙◌, arith}
 use Rattle.std.specs.Prelude.{◌≢◌, IfErr, IfOk, OnErr, OnOk}
 use Rattle.std.proofs.lemmas.Bool.Decides.{nat_tests}
-use Rattle.mails.specs.declared.record.Durable.{Durable}
-use Rattle.cluster_steps.specs.declared.step.Step.{Step}
-use Rattle.cluster_steps.specs.declared.fault.ClusterFault.{ClusterFault}
-use Rattle.cluster_histories.specs.Steps.{Setup, History, Marked, extended, history, marked_of, opening, step_marked, unmarked}
-use Rattle.cluster_entries.specs.declared.entry.Entry.{Entry}
-use Rattle.cluster_steps.specs.declared.fault.ClusterFault.TheVariants as faults
-use Rattle.cluster_steps.specs.Verdicts.{fell}
-use Rattle.post_rules.specs.Numbers.{is_number}
+use Rattle.messages.specs.declared.record.RecordParts.{RecordParts}
+use Rattle.messages.specs.declared.steps.step.Step.{Step}
+use Rattle.messages.specs.declared.steps.fault.ClusterFault.{ClusterFault}
+use Rattle.cluster_model.specs.Steps.{Setup, History, Marked, extended, history, marked_of, opening, step_marked, unmarked}
+use Rattle.messages.specs.declared.entries.entry.Entry.{Entry}
+use Rattle.messages.specs.declared.steps.fault.ClusterFault.TheVariants as faults
+use Rattle.messages.specs.Verdicts.{fell}
+use Rattle.cluster_channels.specs.Numbers.{is_number}
 use Rattle.cluster_core.specs.Keeping.{IsRefused, IsTaken}
 use Rattle.cluster_core.specs.StepRuns.{Passes, Ran, marked_as}
 use Rattle.cluster_core.specs.Stories.{Story, history_of, state_of, with_entry}
@@ -69,7 +69,7 @@ map_step_more : (ms : List Marked) (m : Marked) → map (λ x. x.step) (ms ++ m 
 map_step_more [] m = refl
 map_step_more (x ∷ ms) m = ap (λ (ss : List Step). x.step ∷ ss) (map_step_more ms m)
 
-pub none_ran : (setup : Setup) (records : List Durable) (s : Story) → s ≡ record { setup = setup; records = records; entries = [] } → Ran setup records [] s
+pub none_ran : (setup : Setup) (records : List RecordParts) (s : Story) → s ≡ record { setup = setup; records = records; entries = [] } → Ran setup records [] s
 none_ran setup records s e = record {
   marks = [];
   of_steps = refl;
@@ -78,7 +78,7 @@ none_ran setup records s e = record {
   is_history = ap history_of e;
 }
 
-pub one_ran : (setup : Setup) (records : List Durable) (steps : List Step) (s new : Story) (step : Step) → Ran setup records steps s → Passes s step new → Ran setup records (steps ++ step ∷ []) new
+pub one_ran : (setup : Setup) (records : List RecordParts) (steps : List Step) (s new : Story) (step : Step) → Ran setup records steps s → Passes s step new → Ran setup records (steps ++ step ∷ []) new
 one_ran setup records steps s new step r p =
     let m = marked_as p.fell step in
     record {

@@ -3,8 +3,8 @@ use Rattle.std.proofs.Common.{◌≡◌, ◌≤◌, ℕ, true, ◌&&◌, List, [
 use Rattle.std.specs.Prelude.{if◌then◌else◌}
 use Rattle.std.specs.List.{AllByRecursion as Each, list_any}
 use Rattle.std.proofs.lemmas.Bool.Decides.{nat_tests}
-use Rattle.mails.specs.declared.record.Durable.{Durable}
-use Rattle.mails.specs.declared.record.RecordedTask.{RecordedTask}
+use Rattle.messages.specs.declared.record.RecordParts.{RecordParts}
+use Rattle.messages.specs.declared.record.RecordedTask.{RecordedTask}
 use Rattle.names_core.specs.declared.state.TaskState.{TaskState}
 use Rattle.names_core.specs.States.{is_terminal}
 use Rattle.stream_core.specs.Updates.{are_updates, ends_last}
@@ -23,6 +23,6 @@ all_count : (ts : List RecordedTask) → Each (λ t. are_updates t.updates.state
 all_count [] h = tt
 all_count (t ∷ ts) h = (counts_its_own t.updates.states t.updates.acknowledged h.0, all_count ts h.1)
 
-pub acknowledge_theirs : (records : List Durable) → AreRecorded records → AcknowledgeTheirs records
+pub acknowledge_theirs : (records : List RecordParts) → AreRecorded records → AcknowledgeTheirs records
 acknowledge_theirs [] h = tt
 acknowledge_theirs (d ∷ ds) h = each_append (λ t. t.updates.acknowledged ≤ length t.updates.states) d.tasks (recorded_tasks ds) (all_count d.tasks h.0.updates) (acknowledge_theirs ds h.1)

@@ -2,31 +2,31 @@
 use Rattle.std.proofs.Common.{◌≡◌, ◌<◌, ◌≤◌, ◌+◌, ℕ, suc, Bool, true, false, List, [], ◌∷◌, ◌++◌, map, length, nat_le, Option, Result, Ok, Err, inl, inr, refl, sym, ap, ◌∙◌, subst, arith, length-append}
 use Rattle.std.specs.Prelude.{if◌then◌else◌}
 use Rattle.std.proofs.lemmas.Bool.Decides.{nat_tests}
-use Rattle.mails.specs.declared.record.Durable.{Durable}
-use Rattle.cluster_histories.specs.Clusters.{Cluster}
-use Rattle.cluster_steps.specs.declared.fault.ClusterFault.{ClusterFault}
+use Rattle.messages.specs.declared.record.RecordParts.{RecordParts}
+use Rattle.cluster_model.specs.Clusters.{Cluster}
+use Rattle.messages.specs.declared.steps.fault.ClusterFault.{ClusterFault}
 use Rattle.cluster_model.specs.Ids.{last_number}
-use Rattle.cluster_histories.specs.Steps.{Setup, Done, History, Marked, answer, entry_of, extend_all, extended, fallen_answer, history, marked_of, opening, step_marked, unmarked}
+use Rattle.cluster_model.specs.Steps.{Setup, Done, History, Marked, answer, entry_of, extend_all, extended, fallen_answer, history, marked_of, opening, step_marked, unmarked}
 use Rattle.cluster_laws.specs.Items.{StandIn, new_items}
-use Rattle.agent_sides.specs.Configs.{names_of}
+use Rattle.master_agents.specs.Configs.{names_of}
 use Rattle.cluster_laws.specs.Parts.{AreAgentsOf}
 use Rattle.cluster_laws.specs.Premises.{AreRecorded}
 use Rattle.cluster_model.specs.Openings.{GoodOpening}
 use Rattle.cluster_parts.specs.Opening.{Opens}
 use Rattle.cluster_parts.specs.declared.opening.Opened.{Opened}
-use Rattle.cluster_entries.specs.declared.entry.Entry.{Entry}
-use Rattle.cluster_entries.specs.declared.entry.Outputs.{Outputs}
-use Rattle.cluster_steps.specs.declared.fault.ClusterFault.TheVariants as faults
-use Rattle.cluster_steps.specs.declared.step.Step.{Step}
+use Rattle.messages.specs.declared.entries.entry.Entry.{Entry}
+use Rattle.messages.specs.declared.entries.entry.Outputs.{Outputs}
+use Rattle.messages.specs.declared.steps.fault.ClusterFault.TheVariants as faults
+use Rattle.messages.specs.declared.steps.step.Step.{Step}
 use Rattle.cluster_agents.specs.Handing.{MayRefuse}
 use Rattle.cluster_core.specs.Keeping.{IsKept, IsRefused, IsTaken, entry_made, taken_made}
-use Rattle.post_rules.specs.declared.direction.Direction.{Direction}
+use Rattle.cluster_channels.specs.declared.posts.direction.Direction.{Direction}
 use Rattle.cluster_agents.specs.Moves.{Reached}
 use Rattle.cluster_parts.specs.Parts.{AreParts, ArePartsBy, PartsOf, Same, Stands, Takes, record_of}
 use Rattle.cluster_core.specs.Putting.{ArePut}
 use Rattle.cluster_core.specs.Stories.{IsLegal, Legal, Story, history_of, state_of, with_entry}
-use Rattle.cluster_agents.specs.declared.outcomes.Made.{Made}
-use Rattle.cluster_parts.specs.declared.parts.Parts.{Parts}
+use Rattle.cluster_agents.specs.declared.outcomes.StepOutcome.{StepOutcome}
+use Rattle.cluster_parts.specs.declared.parts.ClusterState.{ClusterState}
 use Rattle.cluster_core.proofs.Puttings.{ItemsLaw, put_still, puts_on, stand_alike}
 use Rattle.cluster_agents.proofs.Committing.{if_it_is_down, if_it_is_up}
 use Rattle.cluster_parts.proofs.Mastering.{extended_more}
@@ -35,7 +35,7 @@ use Rattle.cluster_parts.proofs.Mastering.{extended_more}
 
 -- the law that a state counts the entries of its history
 abbrev pub CountLaw : Type 0
-CountLaw = (setup : Setup) (records : List Durable) (steps : List Marked) → (history setup records steps).state.entries ≡ suc (length (history setup records steps).entries)
+CountLaw = (setup : Setup) (records : List RecordParts) (steps : List Marked) → (history setup records steps).state.entries ≡ suc (length (history setup records steps).entries)
 
 counts : (h : History) (es : List Entry) (new : Cluster) → Legal h.state es new → length (extend_all h (map marked_of es)).entries ≡ length h.entries + length es
 counts h [] new l = omega arith
@@ -79,18 +79,18 @@ none_left s e = grind (arith, nat_tests)
 abbrev pub reached : CountLaw → (s : Story) → IsLegal s → length s.entries < 4294967294 → Reached (state_of s)
 reached law s l h = record { setup = s.setup; records = s.records; steps = map marked_of s.entries; good = l.good; recorded = l.recorded; is = refl; room = has_room law s l h }
 
-pub parts_of_story : {T : Type 0} → CountLaw → (s : Story) (opened : Outputs) (p : Parts T) (count : ℕ) (ways : ℕ → Option Direction) → IsKept s opened p count ways → length s.entries < 4294967294 → PartsOf (state_of s) p
+pub parts_of_story : {T : Type 0} → CountLaw → (s : Story) (opened : Outputs) (p : ClusterState T) (count : ℕ) (ways : ℕ → Option Direction) → IsKept s opened p count ways → length s.entries < 4294967294 → PartsOf (state_of s) p
 parts_of_story law s opened p count ways k h = record { reached = reached law s k.legal h; config = k.config; stands = k.stands }
 
-pub are_parts : {T : Type 0} → CountLaw → (s : Story) (opened : Outputs) (p : Parts T) (count : ℕ) (ways : ℕ → Option Direction) → IsKept s opened p count ways → length s.entries < 4294967294 → AreParts p
+pub are_parts : {T : Type 0} → CountLaw → (s : Story) (opened : Outputs) (p : ClusterState T) (count : ℕ) (ways : ℕ → Option Direction) → IsKept s opened p count ways → length s.entries < 4294967294 → AreParts p
 are_parts law s opened p count ways k h = (state_of s, parts_of_story law s opened p count ways k h)
 
 -- their rounds of offers go by the story's weights
 
 abbrev pub WeightsLaw : Type 0
-WeightsLaw = (setup : Setup) (records : List Durable) (steps : List Marked) → (history setup records steps).state.weights ≡ setup.weights
+WeightsLaw = (setup : Setup) (records : List RecordParts) (steps : List Marked) → (history setup records steps).state.weights ≡ setup.weights
 
-pub parts_by : {T : Type 0} → CountLaw → WeightsLaw → (s : Story) (opened : Outputs) (p : Parts T) (count : ℕ) (ways : ℕ → Option Direction) → IsKept s opened p count ways → length s.entries < 4294967294 → ArePartsBy s.setup.weights p
+pub parts_by : {T : Type 0} → CountLaw → WeightsLaw → (s : Story) (opened : Outputs) (p : ClusterState T) (count : ℕ) (ways : ℕ → Option Direction) → IsKept s opened p count ways → length s.entries < 4294967294 → ArePartsBy s.setup.weights p
 parts_by law weights s opened p count ways k h = (state_of s, parts_of_story law s opened p count ways k h, weights s.setup s.records (map marked_of s.entries))
 
 -- ---- refusals
@@ -120,7 +120,7 @@ refused_so c gives step faults.NoSuchAgent room (inl e) = marks c (unmarked step
 refused_so c gives step faults.NoSuchAgent room (inr w) = absurd (let clash : faults.NoSuchAgent ≡ faults.NoSuchMail = w.0 in cc)
 refused_so c gives step faults.OutOfMemory room h = room
 
-pub step_refused : {T : Type 0} → CountLaw → (s : Story) (opened : Outputs) (p : Parts T) (count : ℕ) (ways : ℕ → Option Direction) (gives : ℕ → Bool) (step : Step) (fault : ClusterFault) → IsKept s opened p count ways → length s.entries < 4294967294 →
+pub step_refused : {T : Type 0} → CountLaw → (s : Story) (opened : Outputs) (p : ClusterState T) (count : ℕ) (ways : ℕ → Option Direction) (gives : ℕ → Bool) (step : Step) (fault : ClusterFault) → IsKept s opened p count ways → length s.entries < 4294967294 →
     ((c : Cluster) → PartsOf c p → MayRefuse c gives step fault) → IsRefused (state_of s) gives step fault
 step_refused law s opened p count ways gives step fault k h why = refused_so (state_of s) gives step fault (has_room law s k.legal h) (why (state_of s) (parts_of_story law s opened p count ways k h))
 
@@ -147,10 +147,10 @@ story_more s e d l step is = record {
   legal = subst (Legal (opening s.setup s.records).state (s.entries ++ e ∷ [])) (sym (state_more s e d step)) (legal_more (opening s.setup s.records).state s.entries e (state_of s) d l.legal step is);
 }
 
-made_marks : {T : Type 0} → CountLaw → (s : Story) (step : Step) (made : Made) (q : Parts T) → IsLegal s → length s.entries < 4294967294 → (t : Takes (state_of s) step made q) → step_marked (state_of s) (marked_of (entry_made step made)) ≡ Ok t.done
+made_marks : {T : Type 0} → CountLaw → (s : Story) (step : Step) (made : StepOutcome) (q : ClusterState T) → IsLegal s → length s.entries < 4294967294 → (t : Takes (state_of s) step made q) → step_marked (state_of s) (marked_of (entry_made step made)) ≡ Ok t.done
 made_marks law s step made q l h t = marks (state_of s) (marked_of (entry_made step made)) (has_room law s l h) ∙ t.answers
 
-pub keeps_on : {T : Type 0} → CountLaw → ItemsLaw → (s : Story) (opened : Outputs) (p q : Parts T) (count before more : ℕ) (ways between news : ℕ → Option Direction) (step : Step) (made : Made) → IsKept s opened p count ways → length s.entries < 4294967294 →
+pub keeps_on : {T : Type 0} → CountLaw → ItemsLaw → (s : Story) (opened : Outputs) (p q : ClusterState T) (count before more : ℕ) (ways between news : ℕ → Option Direction) (step : Step) (made : StepOutcome) → IsKept s opened p count ways → length s.entries < 4294967294 →
     Takes (state_of s) step made q → q.config ≡ p.config → more ≡ length q.served.items → before ≡ length p.served.items → ((n : ℕ) → between n ≡ ways n) → ((n : ℕ) → n ≤ before → news n ≡ between n) → ArePut before q.config q.served.items news →
     IsKept (with_entry s (entry_made step made)) opened q more news
 keeps_on law items_law s opened p q count before more ways between news step made k h t config counted there same older behind =
@@ -171,7 +171,7 @@ keeps_on law items_law s opened p q count before more ways between news step mad
           );
     }
 
-pub takes_on : {T : Type 0} → CountLaw → (s : Story) (q : Parts T) (step : Step) (made : Made) → IsLegal s → length s.entries < 4294967294 → Takes (state_of s) step made q → IsTaken s step (taken_made step made) (with_entry s (entry_made step made))
+pub takes_on : {T : Type 0} → CountLaw → (s : Story) (q : ClusterState T) (step : Step) (made : StepOutcome) → IsLegal s → length s.entries < 4294967294 → Takes (state_of s) step made q → IsTaken s step (taken_made step made) (with_entry s (entry_made step made))
 takes_on law s q step made l h t =
     record {
       done = t.done;
@@ -181,7 +181,7 @@ takes_on law s q step made l h t =
       is_history = refl;
     }
 
-pub stays : {T : Type 0} → (s : Story) (opened : Outputs) (p q : Parts T) (count more : ℕ) (ways news : ℕ → Option Direction) → IsKept s opened p count ways → Same p q → more ≡ count → ((n : ℕ) → news n ≡ ways n) → IsKept s opened q more news
+pub stays : {T : Type 0} → (s : Story) (opened : Outputs) (p q : ClusterState T) (count more : ℕ) (ways news : ℕ → Option Direction) → IsKept s opened p count ways → Same p q → more ≡ count → ((n : ℕ) → news n ≡ ways n) → IsKept s opened q more news
 stays s opened p q count more ways news k same m alike = record {
   legal = k.legal;
   short = k.short;
@@ -203,7 +203,7 @@ stays s opened p q count more ways news k same m alike = record {
 }
 
 -- they stand so whatever the post has
-pub posted : {T : Type 0} → (s : Story) (opened : Outputs) (p : Parts T) (post : T) (count : ℕ) (ways : ℕ → Option Direction) → IsKept s opened p count ways → IsKept s opened (record p { served = record p.served { post = post } }) count ways
+pub posted : {T : Type 0} → (s : Story) (opened : Outputs) (p : ClusterState T) (post : T) (count : ℕ) (ways : ℕ → Option Direction) → IsKept s opened p count ways → IsKept s opened (record p { served = record p.served { post = post } }) count ways
 posted s opened p post count ways k = record {
   legal = k.legal;
   short = k.short;
@@ -221,7 +221,7 @@ posted s opened p post count ways k = record {
 
 -- ---- the opening
 
-pub opens_so : {T : Type 0} → (setup : Setup) (records : List Durable) (es : List Entry) (opened : Outputs) (p : Parts T) (o : Opened T) (count : ℕ) (ways : ℕ → Option Direction) → es ≡ [] → GoodOpening setup.run records → AreRecorded records → Opens setup records o → AreAgentsOf p.config records → p.agents.items ≡ o.agents.items →
+pub opens_so : {T : Type 0} → (setup : Setup) (records : List RecordParts) (es : List Entry) (opened : Outputs) (p : ClusterState T) (o : Opened T) (count : ℕ) (ways : ℕ → Option Direction) → es ≡ [] → GoodOpening setup.run records → AreRecorded records → Opens setup records o → AreAgentsOf p.config records → p.agents.items ≡ o.agents.items →
     p.served.master ≡ o.served.master → p.served.items ≡ o.served.items → p.served.streams ≡ o.served.streams → p.run ≡ setup.run → p.last_tick ≡ 0 → opened ≡ o.outputs → count ≡ length p.served.items → ArePut 0 p.config p.served.items ways → IsKept (record { setup = setup; records = records; entries = es }) opened p count ways
 opens_so setup records [] opened p o count ways none good recorded opens config agents master items streams in_run tick outputs counted put = record {
   legal = record { good = good; recorded = recorded; legal = refl };

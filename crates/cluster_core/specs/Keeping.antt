@@ -1,34 +1,34 @@
 -- What a cluster keeps true of its parts, and what a step makes of its story.
 use Rattle.std.specs.Prelude.{◌≡◌, ◌⊎◌, ◌<◌, ◌≤◌, ℕ, Bool, false, nat_le, if◌then◌else◌, List, map, length, Option, Some, None, Ok, Err, drop, fold}
-use Rattle.cluster_histories.specs.Clusters.{Cluster, Post}
+use Rattle.cluster_model.specs.Clusters.{Cluster, Post}
 use Rattle.cluster_model.specs.Ids.{last_number}
 use Rattle.cluster_model.specs.Masters.{Master}
 use Rattle.master_core.specs.Steps.{offered_on}
-use Rattle.post_rules.specs.declared.direction.Direction.{Direction}
+use Rattle.cluster_channels.specs.declared.posts.direction.Direction.{Direction}
 use Rattle.quantity.specs.declared.rows.Row.{Row}
-use Rattle.cluster_histories.specs.Steps.{Done, entry_of, marked_of, open_cluster, step_marked, unmarked}
+use Rattle.cluster_model.specs.Steps.{Done, entry_of, marked_of, open_cluster, step_marked, unmarked}
 use Rattle.cluster_laws.specs.Parts.{AreAgentsOf, configured}
-use Rattle.cluster_entries.specs.declared.entry.Entry.{Entry}
-use Rattle.cluster_entries.specs.declared.entry.Outputs.{Outputs}
-use Rattle.cluster_steps.specs.declared.fault.ClusterFault.{ClusterFault}
-use Rattle.cluster_steps.specs.declared.fault.ClusterFault.TheVariants.{NoSuchMail, OutOfMemory}
-use Rattle.cluster_steps.specs.declared.step.Step.{Step}
+use Rattle.messages.specs.declared.entries.entry.Entry.{Entry}
+use Rattle.messages.specs.declared.entries.entry.Outputs.{Outputs}
+use Rattle.messages.specs.declared.steps.fault.ClusterFault.{ClusterFault}
+use Rattle.messages.specs.declared.steps.fault.ClusterFault.TheVariants.{NoSuchMail, OutOfMemory}
+use Rattle.messages.specs.declared.steps.step.Step.{Step}
 use Rattle.cluster_agents.specs.Handing.{handed}
 use Rattle.cluster_agents.specs.Moves.{kept_agents}
 use Rattle.cluster_parts.specs.Parts.{Stands, record_of}
 use Rattle.cluster_core.specs.Putting.{ArePut, way_of, with_handed}
 use Rattle.cluster_core.specs.Stories.{IsLegal, Story, state_of, with_entry}
-use Rattle.cluster_agents.specs.declared.outcomes.Made.{Made}
-use Rattle.cluster_parts.specs.declared.parts.Parts.{Parts}
+use Rattle.cluster_agents.specs.declared.outcomes.StepOutcome.{StepOutcome}
+use Rattle.cluster_parts.specs.declared.parts.ClusterState.{ClusterState}
 use Rattle.cluster_core.specs.declared.taken.History.{History}
 use Rattle.cluster_core.specs.declared.taken.Taken.{Taken}
 
 -- an entry of a step, and what is returned of it
 
-abbrev pub entry_made : Step → Made → Entry
+abbrev pub entry_made : Step → StepOutcome → Entry
 entry_made step made = record { step = step; verdict = made.verdict; outputs = made.outputs }
 
-abbrev pub taken_made : Step → Made → Taken
+abbrev pub taken_made : Step → StepOutcome → Taken
 taken_made step made = record { entry = entry_made step made; durable = made.durable }
 
 -- the story of a history
@@ -42,7 +42,7 @@ story_of h =
 
 -- its story is legal, its parts represent the state in which the story ends,
 -- and the post has had all that was sent, each item in its direction
-pub record IsKept {T : Type 0} (s : Story) (opened : Outputs) (p : Parts T) (count : ℕ)
+pub record IsKept {T : Type 0} (s : Story) (opened : Outputs) (p : ClusterState T) (count : ℕ)
     (directions : ℕ → Option Direction) : Type 0 where
   pub legal : IsLegal s
   pub short : length s.entries < 4294967295

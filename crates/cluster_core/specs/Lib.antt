@@ -5,3 +5,6 @@ pub mod Safety
 pub mod StepRuns
 pub mod Stopping
 pub mod Stories
+pub mod Recording
+pub mod Answering
+pub mod Offers

@@ -1,11 +1,11 @@
 -- What is enqueued in a post: in which queue an item is, and how many were enqueued.
 use Rattle.std.specs.Prelude.{◌≡◌, ◌<◌, ◌≤◌, ◌+◌, ℕ, suc, Bool, List, length, Option, None, Some, IfSome, bytes_eq, position, slice_get, unwrap_or}
-use Rattle.agent_sides.specs.declared.config.ConfiguredAgent.{ConfiguredAgent}
+use Rattle.master_agents.specs.declared.config.ConfiguredAgent.{ConfiguredAgent}
 use Rattle.cluster_laws.specs.declared.item.Item.{Item}
 use Rattle.cluster_laws.specs.declared.item.Item.TheVariants as items
-use Rattle.cluster_histories.specs.Clusters.{Post, Called, Down, Up}
-use Rattle.post_rules.specs.declared.direction.Direction.{Direction}
-use Rattle.post_rules.specs.declared.direction.Direction.TheVariants.{Call, ToAgent, FromAgent}
+use Rattle.cluster_model.specs.Clusters.{Post, Called, Down, Up}
+use Rattle.cluster_channels.specs.declared.posts.direction.Direction.{Direction}
+use Rattle.cluster_channels.specs.declared.posts.direction.Direction.TheVariants.{Call, ToAgent, FromAgent}
 
 -- the place of the agent of a name in the configuration
 abbrev pub place_in : List ℕ → List ConfiguredAgent → Option ℕ

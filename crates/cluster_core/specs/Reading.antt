@@ -1,12 +1,12 @@
 -- What is read of a cluster's streams and mails.
 use Rattle.std.specs.Prelude.{◌≡◌, ℕ, Bool, true, false, if◌then◌else◌, List, Option, Some, None, option_map}
 use Rattle.names_core.specs.Ids.{Numbered}
-use Rattle.cluster_histories.specs.Clusters.{Cluster, Down, Up, master_of}
-use Rattle.cluster_histories.specs.Steps.{post_at}
+use Rattle.cluster_model.specs.Clusters.{Cluster, Down, Up, master_of}
+use Rattle.cluster_model.specs.Steps.{post_at}
 use Rattle.master_core.specs.Steps.{is_open}
-use Rattle.post_rules.specs.Queueing.{Item, hands_out}
-use Rattle.event_streams.specs.Kept.{kept_streams}
-use Rattle.event_streams.specs.Streams.{count_on}
+use Rattle.cluster_channels.specs.Queueing.{Item, hands_out}
+use Rattle.cluster_channels.specs.Kept.{kept_streams}
+use Rattle.cluster_channels.specs.Streams.{count_on}
 
 -- how many events of a stream nobody took yet, where it was ever opened
 abbrev pub waiting_in : Numbered → Cluster → Option ℕ

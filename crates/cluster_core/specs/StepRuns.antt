@@ -1,8 +1,8 @@
 -- Steps that are run, where a refused one is passed over.
 use Rattle.std.specs.Prelude.{◌≡◌, Bool, List, map}
-use Rattle.mails.specs.declared.record.Durable.{Durable}
-use Rattle.cluster_histories.specs.Steps.{Setup, Marked, extended, history, step_marked}
-use Rattle.cluster_steps.specs.declared.step.Step.{Step}
+use Rattle.messages.specs.declared.record.RecordParts.{RecordParts}
+use Rattle.cluster_model.specs.Steps.{Setup, Marked, extended, history, step_marked}
+use Rattle.messages.specs.declared.steps.step.Step.{Step}
 use Rattle.cluster_core.specs.Stories.{Story, history_of, state_of}
 
 abbrev pub marked_as : Bool → Step → Marked
@@ -18,7 +18,7 @@ pub record Passes (s : Story) (step : Step) (new : Story) : Type 0 where
 
 -- a story that was opened so over these records,
 -- whose history is that of the steps, each with a mark
-pub record Ran (setup : Setup) (records : List Durable) (steps : List Step)
+pub record Ran (setup : Setup) (records : List RecordParts) (steps : List Step)
     (s : Story) : Type 0 where
   pub marks : List Marked
   pub of_steps : map (λ m. m.step) marks ≡ steps

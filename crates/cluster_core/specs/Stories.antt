@@ -1,22 +1,22 @@
 -- A cluster's story: how it was opened, and every entry since.
 -- What holds of it is a function of the story.
 use Rattle.std.specs.Prelude.{◌≡◌, List, [], ◌∷◌, ◌++◌, map, Ok}
-use Rattle.mails.specs.declared.record.Durable.{Durable}
-use Rattle.agent_sides.specs.declared.config.ConfiguredAgent.{ConfiguredAgent}
-use Rattle.cluster_histories.specs.Clusters.{Cluster}
+use Rattle.messages.specs.declared.record.RecordParts.{RecordParts}
+use Rattle.master_agents.specs.declared.config.ConfiguredAgent.{ConfiguredAgent}
+use Rattle.cluster_model.specs.Clusters.{Cluster}
 use Rattle.cluster_model.specs.Openings.{GoodOpening}
-use Rattle.cluster_histories.specs.Steps.{Setup, Done, History, entry_of, history, marked_of, opening, step_marked}
+use Rattle.cluster_model.specs.Steps.{Setup, Done, History, entry_of, history, marked_of, opening, step_marked}
 use Rattle.cluster_laws.specs.Premises.{AreRecorded}
-use Rattle.cluster_entries.specs.declared.entry.Entry.{Entry}
-use Rattle.cluster_openings.specs.Records.{in_order}
+use Rattle.messages.specs.declared.entries.entry.Entry.{Entry}
+use Rattle.cluster_agents.specs.Records.{in_order}
 
 pub record Story : Type 0 where
   pub setup : Setup
-  pub records : List Durable
+  pub records : List RecordParts
   pub entries : List Entry
 
 -- the story of a cluster of these agents that was opened so over records
-abbrev pub opened_over : Setup → List ConfiguredAgent → List Durable → Story
+abbrev pub opened_over : Setup → List ConfiguredAgent → List RecordParts → Story
 opened_over setup agents records =
     record { setup = setup; records = in_order agents records; entries = [] }
 

@@ -5,20 +5,18 @@ ghost use Rattle.cluster_core.specs.Keeping.{IsFull, IsKept, IsRefused, IsTaken,
 ghost use Rattle.cluster_core.specs.Putting.{ArePut, direction_of, place_in, place_or_end, with_handed};
 ghost use Rattle.cluster_core.specs.Stories.{state_of, with_entry};
 ghost use Rattle.cluster_agents.specs.Handing.{IsGiven, handed};
-ghost use Rattle.cluster_steps.specs.declared.fault.ClusterFault.TheVariants.{HistoryFull};
+ghost use Rattle.messages.specs.declared.steps.fault.ClusterFault.TheVariants.{HistoryFull};
 
 use crate::taken::{History, Taken};
-use agent_sides::ConfiguredAgent;
-use cluster_entries::Entry;
+use cluster_channels::{Direction, Post};
 use cluster_laws::{Item, sent_items_stand, states_count_entries, weights_stay};
-use cluster_parts::{Made, Parts, Served};
-use cluster_steps::{ClusterFault, Step, StepCause};
+use cluster_parts::{ClusterState, MasterAndChannels, StepOutcome};
+use desk_core::KeptEntry;
+use master_agents::ConfiguredAgent;
+use messages::{ClusterFault, Entry, Step, StepCause};
 use names_core::AgentName;
-use permanent_value::Place;
-use plain_data::Plain;
-use post_rules::{Direction, Post};
-use running_clusters::KeptEntry;
 use std::alloc::{AllocError, Global};
+use values::{Place, Plain};
 
 /// With the opening's entry, which has the number 0, a history has 4,294,967,295 entries at most.
 const MOST_ENTRIES: u64 = 4_294_967_294;
@@ -93,7 +91,11 @@ fn put_all<P: Post>(post: &mut P, agents: &[ConfiguredAgent], items: &[Item], be
 }
 
 /// Enqueues in the post of a master's part all items that were sent after the first so many.
-pub fn put_sent<P: Post>(served: &mut Served<P>, agents: &[ConfiguredAgent], before: usize)
+pub fn put_sent<P: Post>(
+    served: &mut MasterAndChannels<P>,
+    agents: &[ConfiguredAgent],
+    before: usize,
+)
     requires counted { P.count (P.known served.old.post) ≡ before }
     requires within { before ≤ length served.old.items }
     requires room { length served.old.items ≤ before + P.room served.old.post }
@@ -125,7 +127,7 @@ fn handed(step: &Step) -> Option<u64>
 }
 
 /// What a step delivers was delivered, and what it sent is enqueued.
-fn hand_on<P: Post>(parts: &mut Parts<P>, before: usize, step: &Step)
+fn hand_on<P: Post>(parts: &mut ClusterState<P>, before: usize, step: &Step)
     requires counted { P.count (P.known parts.old.served.post) ≡ before }
     requires within { before ≤ length parts.old.served.items }
     requires room { length parts.old.served.items ≤ before + P.room parts.old.served.post }
@@ -166,7 +168,7 @@ fn make_room(alloc: Global, history: &mut History) -> Result<Place<Entry>, Alloc
 }
 
 /// Appends an entry, for which there is room, and returns it. It takes no memory.
-fn write_down(history: &mut History, place: Place<Entry>, step: Step, made: Made) -> Taken
+fn write_down(history: &mut History, place: Place<Entry>, step: Step, made: StepOutcome) -> Taken
     requires room { vec_len history.old.entries < vec_capacity history.old.entries }
     ensures entry_kept { story_of history.new
         ≡ with_entry (story_of history.old) (entry_made step made) }
@@ -190,7 +192,7 @@ fn write_down(history: &mut History, place: Place<Entry>, step: Step, made: Made
 /// the order C6, C8, C2, C3, C4, C5, C1, C7; C9 may come before any but C6.
 pub fn advance<P: Post>(
     history: &mut History,
-    parts: &mut Parts<P>,
+    parts: &mut ClusterState<P>,
     alloc: Global,
     step: Step,
 ) -> Result<Taken, ClusterFault>

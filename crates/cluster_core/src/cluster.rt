@@ -4,20 +4,20 @@ ghost use Rattle.std.specs.Prelude.{◌≡◌, ◌<◌, ◌≤◌, ◌+◌, ℕ,
 ghost use Rattle.std.specs.Option.{option_copied};
 ghost use Rattle.cluster_core.specs.Keeping.{IsFull, IsRefused, IsTaken, WithheldFrom, known_after, known_opened, offered_in};
 ghost use Rattle.cluster_core.specs.Safety.{Safe};
-ghost use Rattle.cluster_openings.specs.Records.{AreRecordsOf};
+ghost use Rattle.cluster_agents.specs.Records.{AreRecordsOf};
 ghost use Rattle.cluster_core.specs.Stopping.{AreCovered, AreFound, live_in, live_of};
 ghost use Rattle.cluster_core.specs.Stories.{IsLegal, opened_over, state_of};
-ghost use Rattle.agent_sides.specs.declared.config.ConfiguredAgent.{ConfiguredAgent};
+ghost use Rattle.master_agents.specs.declared.config.ConfiguredAgent.{ConfiguredAgent};
 ghost use Rattle.cluster_laws.specs.Parts.{AreAgentsOf};
-ghost use Rattle.cluster_histories.specs.Clusters.{master_of};
+ghost use Rattle.cluster_model.specs.Clusters.{master_of};
 ghost use Rattle.cluster_model.specs.Openings.{GoodOpening};
-ghost use Rattle.cluster_histories.specs.Steps.{Setup, open_cluster};
+ghost use Rattle.cluster_model.specs.Steps.{Setup, open_cluster};
 ghost use Rattle.cluster_agents.specs.Agents.{agent_in, drafted_in, is_in_session_in, recorded, recorded_in};
 ghost use Rattle.cluster_agents.specs.Handing.{IsGiven};
 ghost use Rattle.cluster_agents.specs.Moves.{kept_agents};
-ghost use Rattle.cluster_steps.specs.declared.step.Step.{Step};
-ghost use Rattle.cluster_steps.specs.declared.fault.ClusterFault.TheVariants.{HistoryFull, OutOfMemory};
-ghost use Rattle.mails.specs.declared.record.Durable.{Durable as Record};
+ghost use Rattle.messages.specs.declared.steps.step.Step.{Step};
+ghost use Rattle.messages.specs.declared.steps.fault.ClusterFault.TheVariants.{HistoryFull, OutOfMemory};
+ghost use Rattle.messages.specs.declared.record.RecordParts.{RecordParts as Record};
 
 mod reading;
 
@@ -26,15 +26,14 @@ use crate::safety::stories_are_safe;
 use crate::stopping::stopped_stories_open_again;
 use crate::taken::{History, Taken};
 use agent_core::Record;
-use agent_sides::Config;
-use cluster_entries::Outputs;
-use cluster_openings::{put_in_order, records_are_recorded};
-use cluster_parts::{ClusterAgent, Parts, open_parts};
-use cluster_steps::{ClusterFault, Step};
+use cluster_agents::{put_in_order, records_are_recorded};
+use cluster_channels::Post;
+use cluster_parts::{ClusterAgent, ClusterState, open_parts};
+use desk_core::KeptEntry;
+use master_agents::Config;
+use messages::{ClusterFault, Outputs, Step};
 use names_core::{AgentName, Run};
-use post_rules::Post;
 use quantity::Resources;
-use running_clusters::KeptEntry;
 use std::alloc::Global;
 use std::marker::Model;
 
@@ -42,7 +41,7 @@ use std::marker::Model;
 /// What is sent is delivered as the post allows.
 pub struct Cluster<P: Post + Drop> {
     history: History,
-    parts: Parts<P>,
+    parts: ClusterState<P>,
 }
 
 // By hand: who drops a cluster calls this, and the proof visits none of its parts.
@@ -100,7 +99,7 @@ impl<P: Post + Drop> Cluster<P> {
                 opened: opened.outputs,
                 entries: Vec::new(alloc),
             },
-            parts: Parts {
+            parts: ClusterState {
                 config: agents,
                 served: opened.served,
                 agents: opened.agents,

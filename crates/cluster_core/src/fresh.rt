@@ -1,15 +1,15 @@
 //! Clusters of agents that never ran.
 
 ghost use Rattle.std.specs.Prelude.{◌≡◌, [], IfOk, IfErr};
-ghost use Rattle.cluster_openings.specs.Fresh.{fresh_records};
-ghost use Rattle.cluster_steps.specs.declared.fault.ClusterFault.TheVariants.{OutOfMemory};
+ghost use Rattle.cluster_agents.specs.Fresh.{fresh_records};
+ghost use Rattle.messages.specs.declared.steps.fault.ClusterFault.TheVariants.{OutOfMemory};
 
 use crate::cluster::Cluster;
-use agent_sides::Config;
-use cluster_openings::{fresh_agents_open, fresh_records};
-use cluster_steps::ClusterFault;
+use cluster_agents::{fresh_agents_open, fresh_records};
+use cluster_channels::EverSent;
+use master_agents::Config;
+use messages::ClusterFault;
 use names_core::Run;
-use post_rules::EverSent;
 use std::alloc::Global;
 
 /// The cluster of configured agents that never ran, in run 1.

@@ -5,6 +5,7 @@
 
 mod advancing;
 mod cluster;
+mod desk;
 mod fresh;
 mod running;
 mod safety;
@@ -12,14 +13,14 @@ mod stopping;
 mod taken;
 
 pub use agent_core::Record;
-pub use agent_sides::{Config, ConfiguredAgents};
 pub use cluster::Cluster;
-pub use cluster_entries::{Entry, Outputs};
-pub use cluster_openings::{fresh_agents_open, fresh_records, good_opening};
-pub use cluster_steps::{ClusterFault, Keep, Sent, Step, StepCause, Verdict};
+pub use cluster_agents::{fresh_agents_open, fresh_records, good_opening};
+pub use cluster_channels::{EverSent, Post, Queues};
+pub use desk::RecordedCluster;
+pub use desk_core::KeptEntry;
 pub use fresh::open_fresh;
-pub use post_rules::{EverSent, Post, Queues};
-pub use role_weights::Weights;
+pub use master_agents::{Config, ConfiguredAgents};
+pub use messages::{ClusterFault, Entry, Keep, Outputs, Sent, Step, StepCause, Verdict};
+pub use names_core::Weights;
 pub use running::run;
-pub use running_clusters::KeptEntry;
 pub use taken::Taken;

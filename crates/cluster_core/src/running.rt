@@ -1,19 +1,19 @@
 //! Steps are run over agents that never ran.
 
 ghost use Rattle.std.specs.Prelude.{◌≡◌, ◌≢◌, [], IfOk, IfErr, OnOk};
-ghost use Rattle.cluster_openings.specs.Fresh.{fresh_records};
+ghost use Rattle.cluster_agents.specs.Fresh.{fresh_records};
 ghost use Rattle.cluster_core.specs.Safety.{Safe};
 ghost use Rattle.cluster_core.specs.StepRuns.{Passes, Ran};
-ghost use Rattle.cluster_steps.specs.declared.fault.ClusterFault.TheVariants.{OutOfMemory};
+ghost use Rattle.messages.specs.declared.steps.fault.ClusterFault.TheVariants.{OutOfMemory};
 
 use crate::cluster::Cluster;
 use crate::fresh::open_fresh;
 use crate::taken::Taken;
-use agent_sides::Config;
-use cluster_steps::{ClusterFault, Step};
-use plain_data::Plain;
-use post_rules::EverSent;
+use cluster_channels::EverSent;
+use master_agents::Config;
+use messages::{ClusterFault, Step};
 use std::alloc::Global;
+use values::Plain;
 
 /// Of a step's refusals `C9 OutOfMemory` alone.
 fn unless_memory(taken: &Result<Taken, ClusterFault>) -> Result<(), ClusterFault>

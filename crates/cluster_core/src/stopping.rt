@@ -1,14 +1,14 @@
 //! What a stop leaves of a cluster's records.
 
 ghost use Rattle.std.specs.Prelude.{◌≡◌, ◌<◌, ℕ, List};
-ghost use Rattle.cluster_openings.specs.Records.{AreRecordsOf};
+ghost use Rattle.cluster_agents.specs.Records.{AreRecordsOf};
 ghost use Rattle.cluster_core.specs.Stopping.{AreCovered, AreFound, live_in, live_of};
 ghost use Rattle.cluster_core.specs.Stories.{IsLegal, Story, opened_over, state_of};
-ghost use Rattle.agent_sides.specs.declared.config.ConfiguredAgent.{ConfiguredAgent};
+ghost use Rattle.master_agents.specs.declared.config.ConfiguredAgent.{ConfiguredAgent};
 ghost use Rattle.cluster_laws.specs.Parts.{AreAgentsOf};
 ghost use Rattle.cluster_model.specs.Openings.{GoodOpening};
-ghost use Rattle.cluster_histories.specs.Steps.{Setup};
-ghost use Rattle.mails.specs.declared.record.Durable.{Durable as Record};
+ghost use Rattle.cluster_model.specs.Steps.{Setup};
+ghost use Rattle.messages.specs.declared.record.RecordParts.{RecordParts as Record};
 
 use cluster_laws::masters_leave_agents;
 use cluster_safe::found_records_open_again;

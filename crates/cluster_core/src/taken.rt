@@ -1,10 +1,9 @@
 //! The history of a cluster, and what a step returns.
 
 use agent_core::Record;
-use cluster_entries::Outputs;
-use names_core::Run;
-use role_weights::Weights;
-use running_clusters::KeptEntry;
+use desk_core::KeptEntry;
+use messages::Outputs;
+use names_core::{Run, Weights};
 
 /// How a cluster was opened, and every entry since.
 #[derive(Drop)]

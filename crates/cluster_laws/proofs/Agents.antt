@@ -3,12 +3,12 @@ use Rattle.std.proofs.Common.{◌≡◌, ℕ, Bool, true, false, List, [], ◌�
 use Rattle.std.specs.Prelude.{⊤}
 use Rattle.std.specs.List.{AllByRecursion as Each}
 use Rattle.std.proofs.lemmas.Bool.{cond_both}
-use Rattle.mails.specs.declared.mail.MasterMail.{MasterMail}
-use Rattle.mails.specs.declared.mail.AgentMail.{AgentMail}
-use Rattle.mails.specs.declared.cause.Cause.{Cause}
-use Rattle.mails.specs.declared.record.Durable.{Durable}
-use Rattle.mails.specs.declared.refusal.AgentRefusal.{AgentRefusal}
-use Rattle.mails.specs.declared.refusal.AgentRefusal.TheVariants.{TotalLess}
+use Rattle.messages.specs.declared.mail.MasterMail.{MasterMail}
+use Rattle.messages.specs.declared.mail.AgentMail.{AgentMail}
+use Rattle.messages.specs.declared.cause.Cause.{Cause}
+use Rattle.messages.specs.declared.record.RecordParts.{RecordParts}
+use Rattle.messages.specs.declared.refusal.AgentRefusal.{AgentRefusal}
+use Rattle.messages.specs.declared.refusal.AgentRefusal.TheVariants.{TotalLess}
 use Rattle.quantity.specs.declared.rows.Row.{Row}
 use Rattle.quantity.specs.Rows.{covers}
 use Rattle.cluster_model.specs.Agents.{Agent, Draft, receives_mail, next_of, opens_again, owning, recovered, recovered_from, starts}
@@ -108,6 +108,6 @@ world_ok P M rules w (TearDown framework) ok = ok
 world_ok P M rules w Restart ok = sides_ok P M restarted (λ s. refl) w.channels ok
 world_ok P M rules w Halt ok = sides_ok P M halted (λ s. refl) w.channels ok
 
-pub opened_ok : (P : List ℕ → Agent → Type 0) (M : AgentMail → Type 0) (records : List Durable) → Each (λ d. P d.name (recovered_from d)) records → Each (ChannelOk P M) (map open_channel records)
+pub opened_ok : (P : List ℕ → Agent → Type 0) (M : AgentMail → Type 0) (records : List RecordParts) → Each (λ d. P d.name (recovered_from d)) records → Each (ChannelOk P M) (map open_channel records)
 opened_ok P M [] h = tt
 opened_ok P M (d ∷ ds) h = (record { agent = h.0; draft = tt; ups = tt }, opened_ok P M ds h.1)

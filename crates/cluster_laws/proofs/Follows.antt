@@ -2,30 +2,30 @@
 use Rattle.std.proofs.Common.{◌≡◌, ℕ, suc, Bool, true, false, List, [], ◌∷◌, ◌++◌, map, Option, Some, None, Result, Ok, Err, refl, sym, ap, ◌∙◌, subst, append-nil, slice_get, bytes_eq, nat_lt, nat_le}
 use Rattle.std.specs.Prelude.{⊤, if◌then◌else◌}
 use Rattle.names_core.specs.Ids.{Numbered}
-use Rattle.mails.specs.declared.mail.MasterMail.{MasterMail}
-use Rattle.mails.specs.declared.mail.AgentMail.{AgentMail}
-use Rattle.mails.specs.declared.cause.Cause.TheVariants.{Start, Executor, Again}
-use Rattle.mails.specs.declared.refusal.AgentRefusal.{AgentRefusal}
-use Rattle.mails.specs.declared.refusal.AgentRefusal.TheVariants.{NotForMe}
+use Rattle.messages.specs.declared.mail.MasterMail.{MasterMail}
+use Rattle.messages.specs.declared.mail.AgentMail.{AgentMail}
+use Rattle.messages.specs.declared.cause.Cause.TheVariants.{Start, Executor, Again}
+use Rattle.messages.specs.declared.refusal.AgentRefusal.{AgentRefusal}
+use Rattle.messages.specs.declared.refusal.AgentRefusal.TheVariants.{NotForMe}
 use Rattle.cluster_model.specs.Ids.{last_number, last_run}
 use Rattle.cluster_model.specs.Agents.{Draft, receives_mail, next_of}
 use Rattle.cluster_model.specs.Channels.{Channel, AgentStep, Draw, DrawMail, Adopt, StopWithout, StopWith, Receive, ByAgent, At, Restart, Halt, after_all}
 use Rattle.cluster_model.specs.Events.{Event}
-use Rattle.cluster_model.specs.Masters.{Doing, new_registers}
-use Rattle.cluster_model.specs.Calls.{called}
-use Rattle.cluster_model.specs.Mails.{mailed, ticked, agent_lost, hung_up}
+use Rattle.cluster_model.specs.Masters.{MasterEffect, new_registers}
+use Rattle.cluster_model.specs.Calls.{call_effect}
+use Rattle.cluster_model.specs.Mails.{mail_effect, ticked, agent_lost, hung_up}
 use Rattle.cluster_model.specs.Rounds.{allocated}
-use Rattle.cluster_histories.specs.Clusters.{Stream, Post, Called, Down, Up, Cluster, master_of}
-use Rattle.cluster_steps.specs.declared.step.StepCause.{StepCause}
-use Rattle.cluster_steps.specs.declared.step.StepCause.TheVariants.{Start as ByStart, Again as ByAgain, Executor as ByExecutor, Mail as ByMail}
-use Rattle.cluster_steps.specs.declared.step.Step.{Step}
-use Rattle.cluster_steps.specs.declared.step.Step.TheVariants.{Send, Deliver, Allocate, Tick, LoseAgent, HangUp, Prepare, Commit, StopAgent, StopMaster, Take}
-use Rattle.cluster_steps.specs.declared.step.Keep.TheVariants.{Before, After}
-use Rattle.cluster_steps.specs.declared.fault.ClusterFault.{ClusterFault}
-use Rattle.cluster_steps.specs.declared.fault.ClusterFault.TheVariants.{MasterDown, AgentDown, DraftOpen, NoDraft, HistoryFull, TimeBack}
-use Rattle.cluster_steps.specs.declared.verdict.Verdict.TheVariants.{Ok as Fine, AgentRefused, OutOfMemory as Fell}
+use Rattle.cluster_model.specs.Clusters.{Stream, Post, Called, Down, Up, Cluster, master_of}
+use Rattle.messages.specs.declared.steps.step.StepCause.{StepCause}
+use Rattle.messages.specs.declared.steps.step.StepCause.TheVariants.{Start as ByStart, Again as ByAgain, Executor as ByExecutor, Mail as ByMail}
+use Rattle.messages.specs.declared.steps.step.Step.{Step}
+use Rattle.messages.specs.declared.steps.step.Step.TheVariants.{Send, Deliver, Allocate, Tick, LoseAgent, HangUp, Prepare, Commit, StopAgent, StopMaster, Take}
+use Rattle.messages.specs.declared.steps.step.Keep.TheVariants.{Before, After}
+use Rattle.messages.specs.declared.steps.fault.ClusterFault.{ClusterFault}
+use Rattle.messages.specs.declared.steps.fault.ClusterFault.TheVariants.{MasterDown, AgentDown, DraftOpen, NoDraft, HistoryFull, TimeBack}
+use Rattle.messages.specs.declared.steps.verdict.Verdict.TheVariants.{Ok as Fine, AgentRefused, OutOfMemory as Fell}
 use Rattle.cluster_model.specs.Openings.{NamesOnce}
-use Rattle.cluster_histories.specs.Steps.{Effect, Done, done, does, happening, effect_of, master_does, master_receives, channel_of, delivers_up, delivers, post_at, with_tick, ticks_at, stream_at, hangs_up, loses_agent, hello_to, drafts, draws_mail_at, draws_mail, prepares, commits, up_again, stops, with_master, at_channel, is_fallen, if_up, by_draft, without_draft, with_draft, takes_event, takes, answer, master_falls, new_master_falls, fallen_too, agent_falls, instead, fallen_answer, Marked, step_marked}
+use Rattle.cluster_model.specs.Steps.{Effect, Done, done, does, happening, effect_of, master_does, master_receives, channel_of, delivers_up, delivers, post_at, with_tick, ticks_at, stream_at, hangs_up, loses_agent, hello_to, drafts, draws_mail_at, draws_mail, prepares, commits, up_again, stops, with_master, at_channel, is_fallen, if_up, by_draft, without_draft, with_draft, takes_event, takes, answer, master_falls, new_master_falls, fallen_too, agent_falls, instead, fallen_answer, Marked, step_marked}
 use Rattle.cluster_laws.specs.Items.{names_of, Item, StandIn, items_sent, call_of}
 use Rattle.cluster_laws.proofs.Sent.{happened_stand, stand_append}
 
@@ -58,12 +58,12 @@ beside_follows calls c other e w p n v f = record {
   posted = λ sent once h. f.posted sent (subst (λ x. NamesOnce (names_of x.channels)) (sym w) once) (rw (w, p) h);
 }
 
-master_follows : (calls : List Item) (c : Cluster) (d : Doing) → Follows calls c (master_does c d)
+master_follows : (calls : List Item) (c : Cluster) (d : MasterEffect) → Follows calls c (master_does c d)
 master_follows calls c d = effect_follows calls c (effect_of [] d)
 
 receives_follows : (calls : List Item) (c : Cluster) (x : Channel) (place : ℕ) (mail : Option AgentMail) → Follows calls c (master_receives c x place mail)
 receives_follows calls c x place None = tt
-receives_follows calls c x place (Some mail) = effect_follows calls c (effect_of (At x.side.name (Receive place) ∷ []) (mailed (master_of c) x.side mail))
+receives_follows calls c x place (Some mail) = effect_follows calls c (effect_of (At x.side.name (Receive place) ∷ []) (mail_effect (master_of c) x.side mail))
 
 delivers_up_follows : (calls : List Item) (c : Cluster) (place : ℕ) (x : Option Channel) → Follows calls c (delivers_up c place x)
 delivers_up_follows calls c place None = tt
@@ -71,7 +71,7 @@ delivers_up_follows calls c place (Some x) = receives_follows calls c x place (s
 
 delivers_follows : (calls : List Item) (c : Cluster) (p : Option Post) → Follows calls c (delivers c p)
 delivers_follows calls c None = tt
-delivers_follows calls c (Some (Called stream call)) = master_follows calls c (called (master_of c) stream call)
+delivers_follows calls c (Some (Called stream call)) = master_follows calls c (call_effect (master_of c) stream call)
 delivers_follows calls c (Some (Down agent place)) = tt
 delivers_follows calls c (Some (Up agent place)) = delivers_up_follows calls c place (channel_of c agent)
 

@@ -1,10 +1,10 @@
 -- Names stand once, so each channel is the one that is found under its name; and what a post stands for stays as channels grow.
 use Rattle.std.proofs.Common.{◌≡◌, ◌≢◌, ℕ, Bool, true, false, List, [], ◌∷◌, map, Option, Some, None, refl, sym, ap, ◌∙◌, subst, bytes_eq, slice_get}
 use Rattle.std.specs.List.{AllByRecursion as Each}
-use Rattle.mails.specs.declared.mail.MasterMail.{MasterMail}
-use Rattle.mails.specs.declared.mail.AgentMail.{AgentMail}
+use Rattle.messages.specs.declared.mail.MasterMail.{MasterMail}
+use Rattle.messages.specs.declared.mail.AgentMail.{AgentMail}
 use Rattle.cluster_model.specs.Channels.{Channel}
-use Rattle.cluster_histories.specs.Clusters.{Post, Called, Down, Up}
+use Rattle.cluster_model.specs.Clusters.{Post, Called, Down, Up}
 use Rattle.cluster_model.specs.Openings.{NamesOnce}
 use Rattle.cluster_laws.specs.Items.{names_of, channel_at, to_agent, to_master, down_item, up_item, item_of, Item, Stand}
 use Rattle.cluster_laws.proofs.Lists.{bytes_same, bytes_refl, bytes_differ, each_both, each_unmapped, get_append, cons_same}

@@ -1,11 +1,11 @@
 -- What holds after every list of steps.
 use Rattle.std.proofs.Common.{◌≡◌, suc, List, [], ◌∷◌, ◌++◌, length, length-append, map, Result, Ok, Err, refl, sym, ◌∙◌, subst, arith}
-use Rattle.mails.specs.declared.record.Durable.{Durable}
+use Rattle.messages.specs.declared.record.RecordParts.{RecordParts}
 use Rattle.cluster_model.specs.Channels.{World, Happening, open_channel, open_world, after, after_all}
-use Rattle.cluster_steps.specs.declared.fault.ClusterFault.{ClusterFault}
-use Rattle.cluster_steps.specs.declared.step.Step.{Step}
+use Rattle.messages.specs.declared.steps.fault.ClusterFault.{ClusterFault}
+use Rattle.messages.specs.declared.steps.step.Step.{Step}
 use Rattle.cluster_model.specs.Openings.{NamesOnce, GoodOpening}
-use Rattle.cluster_histories.specs.Steps.{Setup, Done, entry_of, greets_all, open_cluster, opened_over, Marked, step_marked, History, opening, extended, extend_all, history}
+use Rattle.cluster_model.specs.Steps.{Setup, Done, entry_of, greets_all, open_cluster, opened_over, Marked, step_marked, History, opening, extended, extend_all, history}
 use Rattle.cluster_laws.specs.Items.{names_of, Item, StandIn, items_sent, call_of, new_items}
 use Rattle.cluster_laws.proofs.Lists.{cons_same}
 use Rattle.cluster_laws.proofs.Grown.{worlds_named}
@@ -24,31 +24,31 @@ extended_all : (Q : World → Type 0) → ((w : World) (h : Happening) → Q w �
 extended_all Q f h [] q = q
 extended_all Q f h (s ∷ ss) q = extended_all Q f (extended h s.step (step_marked h.state s)) ss (answered Q f h s.step (step_marked h.state s) (step_follows h.state s) q)
 
-pub reached : (Q : World → Type 0) → ((w : World) (h : Happening) → Q w → Q (after w h)) → (setup : Setup) (records : List Durable) (steps : List Marked) → Q (open_world setup.run records) → Q (history setup records steps).state.world
+pub reached : (Q : World → Type 0) → ((w : World) (h : Happening) → Q w → Q (after w h)) → (setup : Setup) (records : List RecordParts) (steps : List Marked) → Q (open_world setup.run records) → Q (history setup records steps).state.world
 reached Q f setup records steps q = extended_all Q f (opening setup records) steps (happened Q f (greets_all (opened_over setup records)).happenings (open_world setup.run records) q)
 
 -- names
 
-opened_names : (records : List Durable) → names_of (map open_channel records) ≡ map (λ d. d.name) records
+opened_names : (records : List RecordParts) → names_of (map open_channel records) ≡ map (λ d. d.name) records
 opened_names [] = refl
-opened_names (d ∷ ds) = cons_same d.name d.name (names_of (map open_channel ds)) (map (λ (x : Durable). x.name) ds) refl (opened_names ds)
+opened_names (d ∷ ds) = cons_same d.name d.name (names_of (map open_channel ds)) (map (λ (x : RecordParts). x.name) ds) refl (opened_names ds)
 
-pub history_names : (setup : Setup) (records : List Durable) (steps : List Marked) → names_of (history setup records steps).state.world.channels ≡ map (λ d. d.name) records
-history_names setup records steps = reached (λ w. names_of w.channels ≡ map (λ (d : Durable). d.name) records) (λ w h e. worlds_named (h ∷ []) w ∙ e) setup records steps (opened_names records)
+pub history_names : (setup : Setup) (records : List RecordParts) (steps : List Marked) → names_of (history setup records steps).state.world.channels ≡ map (λ d. d.name) records
+history_names setup records steps = reached (λ w. names_of w.channels ≡ map (λ (d : RecordParts). d.name) records) (λ w h e. worlds_named (h ∷ []) w ∙ e) setup records steps (opened_names records)
 
-pub history_once : (setup : Setup) (records : List Durable) (steps : List Marked) → GoodOpening setup.run records → NamesOnce (names_of (history setup records steps).state.world.channels)
+pub history_once : (setup : Setup) (records : List RecordParts) (steps : List Marked) → GoodOpening setup.run records → NamesOnce (names_of (history setup records steps).state.world.channels)
 history_once setup records steps good = subst NamesOnce (sym (history_names setup records steps)) good.names_once
 
 -- items
 
-pub opening_stands : (setup : Setup) (records : List Durable) → GoodOpening setup.run records → StandIn (opening setup records).state (items_sent [] (open_cluster setup records).outputs.sent)
+pub opening_stands : (setup : Setup) (records : List RecordParts) → GoodOpening setup.run records → StandIn (opening setup records).state (items_sent [] (open_cluster setup records).outputs.sent)
 opening_stands setup records good = (effect_follows [] (opened_over setup records) (greets_all (opened_over setup records))).posted [] (subst NamesOnce (sym (opened_names records)) good.names_once) refl
 
 step_stands : (h : History) (calls : List Item) (r : Result Done ClusterFault) (d : Done) (sent : List Item) → Follows calls h.state r → NamesOnce (names_of h.state.world.channels) → r ≡ Ok d → StandIn h.state sent → StandIn d.after (sent ++ items_sent calls d.outputs.sent)
 step_stands h calls (Err refusal) d sent follows once e stand = absurd cc
 step_stands h calls (Ok x) d sent follows once e stand = let is : x ≡ d = cc in subst (λ (y : Done). StandIn y.after (sent ++ items_sent calls y.outputs.sent)) is (follows.posted sent once stand)
 
-pub history_stands : (setup : Setup) (records : List Durable) (steps : List Marked) (s : Marked) (d : Done) (sent : List Item) → GoodOpening setup.run records → step_marked (history setup records steps).state s ≡ Ok d →
+pub history_stands : (setup : Setup) (records : List RecordParts) (steps : List Marked) (s : Marked) (d : Done) (sent : List Item) → GoodOpening setup.run records → step_marked (history setup records steps).state s ≡ Ok d →
     StandIn (history setup records steps).state sent → StandIn d.after (sent ++ new_items s.step d)
 history_stands setup records steps s d sent good e stand =
     let h = history setup records steps in
@@ -74,8 +74,8 @@ weighed_all h (s ∷ ss) = weighed_all (extended h s.step (step_marked h.state s
     one (Ok d) follows = follows.weights
     one (Err refusal) follows = refl
 
-pub history_weighed : (setup : Setup) (records : List Durable) (steps : List Marked) → (history setup records steps).state.weights ≡ setup.weights
+pub history_weighed : (setup : Setup) (records : List RecordParts) (steps : List Marked) → (history setup records steps).state.weights ≡ setup.weights
 history_weighed setup records steps = weighed_all (opening setup records) steps
 
-pub history_counted : (setup : Setup) (records : List Durable) (steps : List Marked) → (history setup records steps).state.entries ≡ suc (length (history setup records steps).entries)
+pub history_counted : (setup : Setup) (records : List RecordParts) (steps : List Marked) → (history setup records steps).state.entries ≡ suc (length (history setup records steps).entries)
 history_counted setup records steps = counted_all (opening setup records) steps refl

@@ -4,27 +4,27 @@ use Rattle.std.specs.Prelude.{◌==◌}
 use Rattle.std.specs.List.{AllByRecursion as Each, list_any}
 use Rattle.std.proofs.lemmas.Bool.Decides.{nat_tests}
 use Rattle.names_core.specs.Ids.{Numbered, same}
-use Rattle.mails.specs.declared.mail.Command.{Command}
-use Rattle.mails.specs.declared.mail.Command.TheVariants.{Launch, Kill, Ack, EndFramework}
-use Rattle.mails.specs.declared.mail.MasterMail.{MasterMail}
-use Rattle.mails.specs.declared.mail.MasterMail.TheVariants.{Hello, Issued}
-use Rattle.mails.specs.declared.mail.AgentMail.{AgentMail}
-use Rattle.mails.specs.declared.mail.AgentMail.TheVariants.{Report, Applied, Update}
-use Rattle.mails.specs.declared.task.Booked.{Booked}
-use Rattle.mails.specs.declared.mail.ToAgent.{ToAgent}
-use Rattle.mails.specs.declared.mail.ToMaster.{ToMaster}
-use Rattle.mails.specs.declared.record.RecordedTask.{RecordedTask}
-use Rattle.mails.specs.declared.cause.Cause.TheVariants.{Mail}
+use Rattle.messages.specs.declared.mail.Command.{Command}
+use Rattle.messages.specs.declared.mail.Command.TheVariants.{Launch, Kill, Ack, EndFramework}
+use Rattle.messages.specs.declared.mail.MasterMail.{MasterMail}
+use Rattle.messages.specs.declared.mail.MasterMail.TheVariants.{Hello, Issued}
+use Rattle.messages.specs.declared.mail.AgentMail.{AgentMail}
+use Rattle.messages.specs.declared.mail.AgentMail.TheVariants.{Report, Applied, Update}
+use Rattle.messages.specs.declared.task.Booked.{Booked}
+use Rattle.messages.specs.declared.mail.ToAgent.{ToAgent}
+use Rattle.messages.specs.declared.mail.ToMaster.{ToMaster}
+use Rattle.messages.specs.declared.record.RecordedTask.{RecordedTask}
+use Rattle.messages.specs.declared.cause.Cause.TheVariants.{Mail}
 use Rattle.cluster_model.specs.Channels.{Channel}
-use Rattle.cluster_histories.specs.Clusters.{sides_of}
+use Rattle.cluster_model.specs.Clusters.{sides_of}
 use Rattle.cluster_model.specs.Openings.{NamesOnce}
 use Rattle.cluster_model.specs.Agents.{is_task}
-use Rattle.cluster_model.specs.Sides.{job_rows, unended}
+use Rattle.cluster_model.specs.Sides.{Run, job_rows, unended}
 use Rattle.cluster_safe.specs.Premises.{MeetsPremises, NextLaunchIsNew}
 use Rattle.cluster_safe.proofs.Ids.{same_is}
 use Rattle.agent_core.specs.Drafts.{receives_in_order, is_in_order, is_next_command, launches_anew}
 use Rattle.quantity.proofs.Amounts.{covers_is_at_least}
-use Rattle.side_fits.specs.Fits.{AreApart, MailFitsAt}
+use Rattle.cluster_model.specs.Fits.{AreApart, MailFitsAt}
 use Rattle.cluster_laws.specs.Items.{names_of, channel_at, item_of}
 use Rattle.cluster_laws.specs.declared.item.Item.TheVariants as items
 use Rattle.cluster_laws.proofs.Lists.{both_true, bytes_refl, bytes_same, each_at, each_both}
@@ -33,7 +33,7 @@ use Rattle.cluster_laws.proofs.Rising.{MailRises, Rises}
 use Rattle.cluster_laws.proofs.Agents.{ChannelOk}
 use Rattle.cluster_laws.proofs.Named.{HasName, AnyMail}
 use Rattle.cluster_laws.proofs.Posts.{down_is, up_is}
-use Rattle.cluster_histories.specs.Clusters.{Post}
+use Rattle.cluster_model.specs.Clusters.{Post}
 
 -- a key that no task has
 none_has : (key : Numbered) (ts : List RecordedTask) → Each (λ t. t.job.key ≢ key) ts → list_any (is_task key) ts ≡ false
@@ -84,34 +84,37 @@ one_in_order cs to place y f e x found h = by (bytes_eq to.agent x.agent.durable
 abbrev pub Both : Channel → Type 0
 Both x = (x.agent.durable.name ≡ x.side.name) × NextLaunchIsNew x
 
-pub all_in_order : (cs : List Channel) → NamesOnce (names_of cs) → Each (ChannelOk HasName AnyMail) cs → Each (MeetsPremises cs) cs → (p : Post) (to : ToAgent) → item_of cs p ≡ Some (items.ToAgent to) →
+pub all_in_order : (next : Numbered) (cs : List Channel) → NamesOnce (names_of cs) → Each (ChannelOk HasName AnyMail) cs → Each (MeetsPremises next cs) cs → (p : Post) (to : ToAgent) → item_of cs p ≡ Some (items.ToAgent to) →
     Each (λ x. is_in_order x.agent (Mail to) ≡ true) cs
-all_in_order cs once named premises p to e =
+all_in_order next cs once named premises p to e =
     let d = down_is cs p to e in
     each_both (FoundIn cs) Both (λ x. is_in_order x.agent (Mail to) ≡ true) (one_in_order cs to d.0 d.1 d.3 d.4) cs (found_all cs once)
-    (each_both (ChannelOk HasName AnyMail) (MeetsPremises cs) Both (λ c n q. (n.agent, q.launch)) cs named premises)
+    (each_both (ChannelOk HasName AnyMail) (MeetsPremises next cs) Both (λ c n q. (n.agent, q.launch)) cs named premises)
 
 -- what an agent's mails report can be booked
 
-abbrev Ready : List Channel → Channel → Type 0
-Ready cs c = MeetsPremises cs c × ChannelOk Rises MailRises c
+abbrev Ready : Numbered → List Channel → Channel → Type 0
+Ready next cs c = MeetsPremises next cs c × ChannelOk Rises MailRises c
 
 others_apart : (agent : List ℕ) (tasks : List Booked) (x : Channel) (cs : List Channel) → x.side.name ≡ agent → Each (λ d. d.side.name ≢ x.side.name → Each (λ t. Each (λ b. b.job.key ≢ t.job.key) d.side.booked) tasks) cs → Each (λ s. bytes_eq s.name agent ≡ false → AreApart tasks s) (sides_of cs)
 others_apart agent tasks x [] name h = tt
 others_apart agent tasks x (d ∷ ds) name h =
     ((λ other. h.0 (λ e. let same : bytes_eq d.side.name agent ≡ true = ap (λ n. bytes_eq n agent) (e ∙ name) ∙ bytes_refl agent in let n : true ≡ false = sym same ∙ other in cc)), others_apart agent tasks x ds name h.1)
 
-mail_fits : (agent : List ℕ) (cs : List Channel) (x : Channel) (place : ℕ) (mail : AgentMail) → x.side.name ≡ agent → Ready cs x → slice_get x.to_master place ≡ Some mail → MailFitsAt agent mail (sides_of cs)
-mail_fits agent cs x place (Report session number tasks total) name ready e = record {
-  rising = each_at MailRises x.to_master place (Report session number tasks total) ready.1.ups e;
-  apart = others_apart agent tasks x cs name (ready.0.apart place session number tasks total e);
-  fits = (covers_is_at_least total (job_rows (unended tasks))).1 (ready.0.report place session number tasks total e);
-}
-mail_fits agent cs x place (Applied session count) name ready e = tt
-mail_fits agent cs x place (Update session key k state ended) name ready e = tt
+mail_fits : (run : Run) (agent : List ℕ) (cs : List Channel) (x : Channel) (place : ℕ) (mail : AgentMail) → x.side.name ≡ agent → Ready run.next_key cs x → slice_get x.to_master place ≡ Some mail → MailFitsAt run agent mail (sides_of cs)
+mail_fits run agent cs x place (Report session number tasks total) name ready e = (
+  record {
+    rising = each_at MailRises x.to_master place (Report session number tasks total) ready.1.ups e;
+    apart = others_apart agent tasks x cs name (ready.0.apart place session number tasks total e);
+    fits = (covers_is_at_least total (job_rows (unended tasks))).1 (ready.0.report place session number tasks total e);
+  },
+  ready.0.assigned place session number tasks total e,
+)
+mail_fits run agent cs x place (Applied session count) name ready e = tt
+mail_fits run agent cs x place (Update session key k state ended) name ready e = tt
 
-pub fits_sides : (cs : List Channel) → Each (MeetsPremises cs) cs → Each (ChannelOk Rises MailRises) cs → (p : Post) (to : ToMaster) → item_of cs p ≡ Some (items.ToMaster to) → MailFitsAt to.agent to.mail (sides_of cs)
-fits_sides cs premises rising p to e =
+pub fits_sides : (run : Run) (cs : List Channel) → Each (MeetsPremises run.next_key cs) cs → Each (ChannelOk Rises MailRises) cs → (p : Post) (to : ToMaster) → item_of cs p ≡ Some (items.ToMaster to) → MailFitsAt run to.agent to.mail (sides_of cs)
+fits_sides run cs premises rising p to e =
     let d = up_is cs p to e in
-    let found = found_has (Ready cs) to.agent cs d.1 (each_both (MeetsPremises cs) (ChannelOk Rises MailRises) (Ready cs) (λ c m r. (m, r)) cs premises rising) d.3 in
-    mail_fits to.agent cs d.1 d.0 to.mail found.1 found.0 d.4
+    let found = found_has (Ready run.next_key cs) to.agent cs d.1 (each_both (MeetsPremises run.next_key cs) (ChannelOk Rises MailRises) (Ready run.next_key cs) (λ c m r. (m, r)) cs premises rising) d.3 in
+    mail_fits run to.agent cs d.1 d.0 to.mail found.1 found.0 d.4

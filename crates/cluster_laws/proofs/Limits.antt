@@ -9,24 +9,24 @@ use Rattle.names_core.specs.declared.state.TaskState.{TaskState}
 use Rattle.names_core.specs.declared.state.TaskState.TheVariants.{Killed}
 use Rattle.names_core.specs.States.{is_terminal}
 use Rattle.stream_core.specs.Updates.{is_full, is_front, is_done, pushed, acknowledged_one, are_updates, ends_last}
-use Rattle.mails.specs.declared.mail.AgentMail.TheVariants.{Applied, Update}
-use Rattle.mails.specs.declared.mail.Command.{Command}
-use Rattle.mails.specs.declared.mail.Command.TheVariants.{Launch, Kill, Ack, EndFramework}
-use Rattle.mails.specs.declared.mail.MasterMail.{MasterMail}
-use Rattle.mails.specs.declared.mail.MasterMail.TheVariants.{Hello, Issued}
-use Rattle.mails.specs.declared.mail.ToMaster.{ToMaster}
-use Rattle.mails.specs.declared.record.Durable.{Durable}
-use Rattle.mails.specs.declared.record.RecordedTask.{RecordedTask}
-use Rattle.mails.specs.declared.cause.Cause.{Cause}
-use Rattle.mails.specs.declared.cause.Cause.TheVariants.{Start, Mail, Executor, Again}
-use Rattle.mails.specs.Causes.{task_state}
-use Rattle.mails.specs.declared.refusal.AgentRefusal.{AgentRefusal}
-use Rattle.mails.specs.declared.refusal.AgentRefusal.TheVariants.{OldSession, NotNext, NoSuchTask, Ended, NoRoom, UpdatesFull, SessionsSpent}
+use Rattle.messages.specs.declared.mail.AgentMail.TheVariants.{Applied, Update}
+use Rattle.messages.specs.declared.mail.Command.{Command}
+use Rattle.messages.specs.declared.mail.Command.TheVariants.{Launch, Kill, Ack, EndFramework}
+use Rattle.messages.specs.declared.mail.MasterMail.{MasterMail}
+use Rattle.messages.specs.declared.mail.MasterMail.TheVariants.{Hello, Issued}
+use Rattle.messages.specs.declared.mail.ToMaster.{ToMaster}
+use Rattle.messages.specs.declared.record.RecordParts.{RecordParts}
+use Rattle.messages.specs.declared.record.RecordedTask.{RecordedTask}
+use Rattle.messages.specs.declared.cause.Cause.{Cause}
+use Rattle.messages.specs.declared.cause.Cause.TheVariants.{Start, Mail, Executor, Again}
+use Rattle.messages.specs.Causes.{task_state}
+use Rattle.messages.specs.declared.refusal.AgentRefusal.{AgentRefusal}
+use Rattle.messages.specs.declared.refusal.AgentRefusal.TheVariants.{OldSession, NotNext, NoSuchTask, Ended, NoRoom, UpdatesFull, SessionsSpent}
 use Rattle.cluster_model.specs.Ids.{last_number}
 use Rattle.cluster_model.specs.Agents.{Agent, Draft, has_ended, is_task, state_at, front_of, fronts, front_at, owning, reopened, reports, opens_next, starts, stated, acknowledged, launched_task, tasks_after, is_front_at, fronts_after, with_tasks, after_command, applies, has_room, receives_mail, needs_place, executes, next_of}
 use Rattle.cluster_model.specs.Channels.{Channel, is_own}
-use Rattle.cluster_histories.specs.Clusters.{Post}
-use Rattle.cluster_histories.specs.Steps.{Setup, Marked, history}
+use Rattle.cluster_model.specs.Clusters.{Post}
+use Rattle.cluster_model.specs.Steps.{Setup, Marked, history}
 use Rattle.cluster_model.specs.Mails.{FitsRecord}
 use Rattle.cluster_laws.specs.Items.{item_of}
 use Rattle.cluster_laws.specs.declared.item.Item.TheVariants as items
@@ -219,10 +219,10 @@ recorded_within t e = by (list_any is_terminal t.updates.states) refl (both_true
         let few : length t.updates.states ≤ 4095 = grind (arith, nat_tests) in
         (omega arith, λ n. few)
 
-all_recorded : (records : List Durable) → AreRecorded records → Each (λ (d : Durable). AreWithin d.tasks) records
-all_recorded records h = each_map IsRecorded (λ (d : Durable). AreWithin d.tasks) (λ d r. each_map (λ t. are_updates t.updates.states t.updates.acknowledged ≡ true) IsWithin recorded_within d.tasks r.updates) records h
+all_recorded : (records : List RecordParts) → AreRecorded records → Each (λ (d : RecordParts). AreWithin d.tasks) records
+all_recorded records h = each_map IsRecorded (λ (d : RecordParts). AreWithin d.tasks) (λ d r. each_map (λ t. are_updates t.updates.states t.updates.acknowledged ≡ true) IsWithin recorded_within d.tasks r.updates) records h
 
-pub history_roomy : (setup : Setup) (records : List Durable) (steps : List Marked) → AreRecorded records → WorldOk Roomy FitsRecord (history setup records steps).state.world
+pub history_roomy : (setup : Setup) (records : List RecordParts) (steps : List Marked) → AreRecorded records → WorldOk Roomy FitsRecord (history setup records steps).state.world
 history_roomy setup records steps h = reached (WorldOk Roomy FitsRecord) (world_ok Roomy FitsRecord limits_kept) setup records steps (opened_ok Roomy FitsRecord records (all_recorded records h))
 
 pub fits_record : (cs : List Channel) → Each (ChannelOk Roomy FitsRecord) cs → (p : Post) (to : ToMaster) → item_of cs p ≡ Some (items.ToMaster to) → FitsRecord to.mail

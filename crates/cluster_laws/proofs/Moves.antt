@@ -3,22 +3,22 @@ use Rattle.std.proofs.Common.{◌≡◌, ◌≢◌, ◌+◌, ℕ, suc, zero, Boo
 use Rattle.std.specs.Prelude.{slice_set, ⊤, if◌then◌else◌}
 use Rattle.std.specs.List.{AllByRecursion as Each}
 use Rattle.std.proofs.lemmas.Bool.{cond_both}
-use Rattle.mails.specs.declared.mail.MasterMail.{MasterMail}
-use Rattle.mails.specs.declared.mail.AgentMail.{AgentMail}
-use Rattle.mails.specs.declared.record.Durable.{Durable}
+use Rattle.messages.specs.declared.mail.MasterMail.{MasterMail}
+use Rattle.messages.specs.declared.mail.AgentMail.{AgentMail}
+use Rattle.messages.specs.declared.record.RecordParts.{RecordParts}
 use Rattle.cluster_model.specs.Ids.{last_run}
-use Rattle.mails.specs.declared.cause.Cause.{Cause}
-use Rattle.mails.specs.declared.refusal.AgentRefusal.{AgentRefusal}
+use Rattle.messages.specs.declared.cause.Cause.{Cause}
+use Rattle.messages.specs.declared.refusal.AgentRefusal.{AgentRefusal}
 use Rattle.cluster_model.specs.Agents.{Draft, receives_mail, next_of, recovered}
 use Rattle.cluster_model.specs.Sides.{Run, Side, halted, restarted, side_step, SendHello, new_run}
 use Rattle.cluster_model.specs.Channels.{Channel, AgentStep, Draw, DrawMail, Adopt, StopWithout, StopWith, drawn, drawn_mail, adopted, stopped_with, is_own, agent_step, ChannelStep, ByMaster, Receive, ByAgent, received_mail, happens, World, Happening, At, TearDown, Restart, Halt, behind, in_front, at_agent, with_side, after, after_all, open_channel, open_world}
-use Rattle.cluster_model.specs.Masters.{Move, AtSide, TearDownAll, RestartAll, HaltAll, Doing, new_registers}
-use Rattle.cluster_histories.specs.Clusters.{Cluster, Post, sides_of, master_of}
-use Rattle.cluster_steps.specs.declared.verdict.Sent.TheVariants.{ToMaster as MailToMaster}
-use Rattle.cluster_steps.specs.declared.verdict.Verdict.{Verdict}
-use Rattle.cluster_steps.specs.declared.verdict.Verdict.TheVariants.{Ok as Fine}
+use Rattle.cluster_model.specs.Masters.{Move, AtSide, TearDownAll, RestartAll, HaltAll, MasterEffect, new_registers}
+use Rattle.cluster_model.specs.Clusters.{Cluster, Post, sides_of, master_of}
+use Rattle.messages.specs.declared.steps.verdict.Sent.TheVariants.{ToMaster as MailToMaster}
+use Rattle.messages.specs.declared.steps.verdict.Verdict.{Verdict}
+use Rattle.messages.specs.declared.steps.verdict.Verdict.TheVariants.{Ok as Fine}
 use Rattle.cluster_model.specs.Openings.{NamesOnce}
-use Rattle.cluster_histories.specs.Steps.{Setup, posts_in, sent_in, sent_between, posts_between, sent_by, posts_by, done, happening, happening_of, effect_of, hello_to, greets_all, master_stops, master_falls, new_master_falls, agent_falls, open_cluster, streams_after}
+use Rattle.cluster_model.specs.Steps.{Setup, posts_in, sent_in, sent_between, posts_between, sent_by, posts_by, done, happening, happening_of, effect_of, hello_to, greets_all, master_stops, master_falls, new_master_falls, agent_falls, open_cluster, streams_after}
 use Rattle.cluster_laws.specs.Items.{names_of}
 use Rattle.cluster_laws.specs.Parts.{part_of, parts_of, recovered_part, IsSilent, from_agent, greeting, anew, next_master}
 use Rattle.cluster_laws.proofs.Lists.{each_at, bytes_refl, bytes_differ, cons_same, append_same, drop_all}
@@ -87,10 +87,10 @@ hellos_masters : (cs : List Channel) → Each IsMasters (map hello_to cs)
 hellos_masters [] = tt
 hellos_masters (c ∷ cs) = (tt, hellos_masters cs)
 
-pub moved_parts : (c : Cluster) (d : Doing) → parts_of (done c (effect_of [] d)).after.world.channels ≡ parts_of c.world.channels
+pub moved_parts : (c : Cluster) (d : MasterEffect) → parts_of (done c (effect_of [] d)).after.world.channels ≡ parts_of c.world.channels
 moved_parts c d = all_parts (map happening_of d.moves) c.world (moves_masters d.moves)
 
-pub received_parts : (c : Cluster) (agent : List ℕ) (place : ℕ) (d : Doing) → parts_of (done c (effect_of (At agent (Receive place) ∷ []) d)).after.world.channels ≡ parts_of c.world.channels
+pub received_parts : (c : Cluster) (agent : List ℕ) (place : ℕ) (d : MasterEffect) → parts_of (done c (effect_of (At agent (Receive place) ∷ []) d)).after.world.channels ≡ parts_of c.world.channels
 received_parts c agent place d = all_parts (At agent (Receive place) ∷ map happening_of d.moves) c.world (tt, moves_masters d.moves)
 
 pub fallen_parts : (c : Cluster) → parts_of (master_falls c).after.world.channels ≡ parts_of c.world.channels
@@ -106,11 +106,11 @@ stopped_parts c = by (nat_lt c.world.run.number last_run)
     by true = all_parts (Restart ∷ map hello_to c.world.channels) c.world (tt, hellos_masters c.world.channels)
     by false = all_parts (Halt ∷ []) c.world (tt, tt)
 
-opened_part : (records : List Durable) → parts_of (map open_channel records) ≡ map recovered_part records
+opened_part : (records : List RecordParts) → parts_of (map open_channel records) ≡ map recovered_part records
 opened_part [] = refl
 opened_part (d ∷ ds) = cons_same (part_of (open_channel d)) (recovered_part d) (parts_of (map open_channel ds)) (map recovered_part ds) refl (opened_part ds)
 
-pub opened_parts : (setup : Setup) (records : List Durable) → parts_of (open_cluster setup records).after.world.channels ≡ map recovered_part records
+pub opened_parts : (setup : Setup) (records : List RecordParts) → parts_of (open_cluster setup records).after.world.channels ≡ map recovered_part records
 opened_parts setup records = all_parts (map hello_to (open_world setup.run records).channels) (open_world setup.run records) (hellos_masters (open_world setup.run records).channels) ∙ opened_part records
 
 -- an agent's happenings

@@ -5,20 +5,20 @@ use Rattle.std.specs.List.{list_any}
 use Rattle.names_core.specs.Ids.{Numbered}
 use Rattle.names_core.specs.declared.state.TaskState.{TaskState}
 use Rattle.stream_core.specs.Updates.{is_full}
-use Rattle.mails.specs.declared.mail.AgentMail.{AgentMail}
-use Rattle.mails.specs.declared.mail.AgentMail.TheVariants.{Applied}
-use Rattle.mails.specs.declared.mail.MasterMail.{MasterMail}
-use Rattle.mails.specs.declared.mail.MasterMail.TheVariants.{Hello, Issued}
-use Rattle.mails.specs.declared.record.Durable.{Durable}
-use Rattle.mails.specs.declared.cause.Cause.{Cause}
-use Rattle.mails.specs.declared.cause.Cause.TheVariants.{Start, Mail, Executor, Again}
-use Rattle.mails.specs.Causes.{task_state}
-use Rattle.mails.specs.declared.refusal.AgentRefusal.{AgentRefusal}
-use Rattle.mails.specs.declared.refusal.AgentRefusal.TheVariants.{OldSession, NotNext, NoSuchTask, Ended, NoRoom, UpdatesFull, SessionsSpent}
+use Rattle.messages.specs.declared.mail.AgentMail.{AgentMail}
+use Rattle.messages.specs.declared.mail.AgentMail.TheVariants.{Applied}
+use Rattle.messages.specs.declared.mail.MasterMail.{MasterMail}
+use Rattle.messages.specs.declared.mail.MasterMail.TheVariants.{Hello, Issued}
+use Rattle.messages.specs.declared.record.RecordParts.{RecordParts}
+use Rattle.messages.specs.declared.cause.Cause.{Cause}
+use Rattle.messages.specs.declared.cause.Cause.TheVariants.{Start, Mail, Executor, Again}
+use Rattle.messages.specs.Causes.{task_state}
+use Rattle.messages.specs.declared.refusal.AgentRefusal.{AgentRefusal}
+use Rattle.messages.specs.declared.refusal.AgentRefusal.TheVariants.{OldSession, NotNext, NoSuchTask, Ended, NoRoom, UpdatesFull, SessionsSpent}
 use Rattle.cluster_model.specs.Ids.{last_number}
 use Rattle.cluster_model.specs.Agents.{Agent, Draft, has_ended, is_task, front_at, owning, reopened, reports, opens_next, starts, stated, with_tasks, applies, has_room, receives_mail, needs_place, executes, next_of}
 use Rattle.cluster_model.specs.Channels.{is_own}
-use Rattle.cluster_histories.specs.Steps.{Setup, Marked, history}
+use Rattle.cluster_model.specs.Steps.{Setup, Marked, history}
 use Rattle.cluster_laws.proofs.Lists.{each_all}
 use Rattle.cluster_laws.proofs.Agents.{AllOk, all_if, starts_ok, all_wider, Makes, Rules, WorldOk, world_ok, opened_ok}
 use Rattle.cluster_laws.proofs.Histories.{reached}
@@ -85,5 +85,5 @@ names_kept = record {
   stops = λ name a h. h;
 }
 
-pub history_named : (setup : Setup) (records : List Durable) (steps : List Marked) → WorldOk HasName AnyMail (history setup records steps).state.world
-history_named setup records steps = reached (WorldOk HasName AnyMail) (world_ok HasName AnyMail names_kept) setup records steps (opened_ok HasName AnyMail records (each_all (λ (d : Durable). d.name ≡ d.name) (λ d. refl) records))
+pub history_named : (setup : Setup) (records : List RecordParts) (steps : List Marked) → WorldOk HasName AnyMail (history setup records steps).state.world
+history_named setup records steps = reached (WorldOk HasName AnyMail) (world_ok HasName AnyMail names_kept) setup records steps (opened_ok HasName AnyMail records (each_all (λ (d : RecordParts). d.name ≡ d.name) (λ d. refl) records))

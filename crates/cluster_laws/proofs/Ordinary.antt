@@ -3,34 +3,34 @@ use Rattle.std.proofs.Common.{◌≡◌, ℕ, suc, Bool, true, false, not, ◌||
 use Rattle.std.specs.Prelude.{if◌then◌else◌}
 use Rattle.std.specs.List.{AllByRecursion as Each, find, list_any}
 use Rattle.names_core.specs.Ids.{Numbered}
-use Rattle.mails.specs.declared.task.Offer.{Offer}
-use Rattle.mails.specs.declared.mail.AgentMail.{AgentMail}
-use Rattle.mails.specs.declared.mail.AgentMail.TheVariants.{Report, Applied, Update}
-use Rattle.mails.specs.declared.refusal.MasterRefusal.{MasterRefusal}
-use Rattle.mails.specs.declared.refusal.MasterRefusal.TheVariants.{OtherRun, OldSession, Closed, NotOpen, NotSubscribed, WrongStream, NoSuchFramework, LimitExceeded}
-use Rattle.mails.specs.declared.call.Call.{Call}
-use Rattle.mails.specs.declared.call.Call.TheVariants.{Subscribe, Teardown, Accept, Decline, Revive, Suppress, Acknowledge, Reconcile}
-use Rattle.mails.specs.declared.call.Call.TheVariants as calls
-use Rattle.mails.specs.declared.call.ReconciledTask.{ReconciledTask}
-use Rattle.role_weights.specs.Weights.{RoleWeight}
+use Rattle.messages.specs.declared.task.Offer.{Offer}
+use Rattle.messages.specs.declared.mail.AgentMail.{AgentMail}
+use Rattle.messages.specs.declared.mail.AgentMail.TheVariants.{Report, Applied, Update}
+use Rattle.messages.specs.declared.refusal.MasterRefusal.{MasterRefusal}
+use Rattle.messages.specs.declared.refusal.MasterRefusal.TheVariants.{OtherRun, OldSession, Closed, NotOpen, NotSubscribed, WrongStream, NoSuchFramework, LimitExceeded}
+use Rattle.messages.specs.declared.call.Call.{Call}
+use Rattle.messages.specs.declared.call.Call.TheVariants.{Subscribe, Teardown, Accept, Decline, Revive, Suppress, Acknowledge, Reconcile}
+use Rattle.messages.specs.declared.call.Call.TheVariants as calls
+use Rattle.messages.specs.declared.call.ReconciledTask.{ReconciledTask}
+use Rattle.names_core.specs.Weights.{RoleWeight}
 use Rattle.cluster_model.specs.Ids.{last_number}
 use Rattle.cluster_model.specs.Sides.{Side, opens, is_named, MakeOffer, SendKill, SendAck, SendEnd, SendHello, Lose}
 use Rattle.cluster_model.specs.Events.{MadeOffer, Failure}
-use Rattle.cluster_model.specs.Masters.{Framework, Registers, Master, Move, AtSide, TearDownAll, Doing, nothing, refused, saying, moving, framework_of, is_torn, with_framework, events_to_all, Placed, all_booked, held, is_of, withdraws_on, withdraws, without_filters_on, side_of, has_numbers, may_have_numbers}
-use Rattle.cluster_model.specs.Calls.{frameworks_limit, to_list, subscribed, removed, resubscribed, is_unassigned, sides_with_tasks, on_teardown, answers_held, Given, good_side, given_by, Accepting, accepts_all, accepted_as, passes_limits, accepted_from, on_accept, on_decline, on_revive, on_suppress, commanding, on_kill, is_last_received, on_acknowledge, on_reconcile, is_stream, on_its_stream, by_known, called}
-use Rattle.cluster_model.specs.Mails.{judged, rescinds, loses, is_to_end, session_opens, goes_with, mailed_as, mailed, ticks, ticked, agent_lost, hung_up_by, hung_up}
+use Rattle.cluster_model.specs.Masters.{Framework, Registers, Master, Move, AtSide, TearDownAll, MasterEffect, nothing, refused, saying, moving, framework_of, is_torn, with_framework, events_to_all, Placed, all_booked, held, is_of, withdraws_on, withdraws, without_filters_on, side_of, has_numbers, may_have_numbers}
+use Rattle.cluster_model.specs.Calls.{frameworks_limit, to_list, subscribed, removed, resubscribed, is_unassigned, sides_with_tasks, on_teardown, answers_held, Given, good_side, given_by, Accepting, accepts_all, accepted_as, passes_limits, accepted_from, on_accept, on_decline, on_revive, on_suppress, commanding, on_kill, is_last_received, on_acknowledge, on_reconcile, is_stream, on_its_stream, by_known, call_effect}
+use Rattle.cluster_model.specs.Mails.{judged, rescinds, loses, is_to_end, session_opens, goes_with, mailed_as, mail_effect, ticks, ticked, agent_lost, hung_up_by, hung_up}
 use Rattle.cluster_model.specs.Rounds.{round, allocated}
 use Rattle.cluster_laws.specs.Runs.{IsPlain, OpensNext}
 use Rattle.cluster_laws.proofs.Lists.{each_append}
 
-pub record Ordinary (m : Master) (d : Doing) : Type 0 where
+pub record Ordinary (m : Master) (d : MasterEffect) : Type 0 where
   pub moves : Each IsPlain d.moves
   pub opens : OpensNext m d
 
-plain : (m : Master) (d : Doing) → Each IsPlain d.moves → d.opens ≡ [] → d.registers.last_stream ≡ m.registers.last_stream → Ordinary m d
+plain : (m : Master) (d : MasterEffect) → Each IsPlain d.moves → d.opens ≡ [] → d.registers.last_stream ≡ m.registers.last_stream → Ordinary m d
 plain m d h o l = record { moves = h; opens = inl (o, l) }
 
-if_ordinary : (m : Master) (b : Bool) (x y : Doing) → Ordinary m x → Ordinary m y → Ordinary m (if b then x else y)
+if_ordinary : (m : Master) (b : Bool) (x y : MasterEffect) → Ordinary m x → Ordinary m y → Ordinary m (if b then x else y)
 if_ordinary m true x y h k = h
 if_ordinary m false x y h k = k
 
@@ -57,18 +57,18 @@ resubscribes m id role (Some f) = subscribes m m.registers id role (Some f) refl
 commands : (m : Master) (s : Option Side) (order : Move) → IsPlain order → Ordinary m (commanding m s order)
 commands m s order ok = if_ordinary m (may_have_numbers 1 s) (moving m (order ∷ [])) (refused m LimitExceeded) (plain m (moving m (order ∷ [])) (ok, tt) refl refl) (refuses m LimitExceeded)
 
-on_stream_too : (m : Master) (stream o : Option Numbered) (d : Doing) → Ordinary m d → Ordinary m (on_its_stream m stream o d)
+on_stream_too : (m : Master) (stream o : Option Numbered) (d : MasterEffect) → Ordinary m d → Ordinary m (on_its_stream m stream o d)
 on_stream_too m stream None d h = refuses m NotSubscribed
 on_stream_too m stream (Some s) d h = if_ordinary m (is_stream s stream) d (refused m WrongStream) h (refuses m WrongStream)
 
-known_too : (m : Master) (stream : Option Numbered) (o : Option Framework) (doing : Framework → Doing) → ((f : Framework) → Ordinary m (doing f)) → Ordinary m (by_known m stream o doing)
+known_too : (m : Master) (stream : Option Numbered) (o : Option Framework) (doing : Framework → MasterEffect) → ((f : Framework) → Ordinary m (doing f)) → Ordinary m (by_known m stream o doing)
 known_too m stream None doing h = refuses m NoSuchFramework
 known_too m stream (Some f) doing h = if_ordinary m (is_torn m f.id) (refused m NoSuchFramework) (on_its_stream m stream f.stream (doing f)) (refuses m NoSuchFramework) (on_stream_too m stream f.stream (doing f) (h f))
 
 tears_down : (m : Master) (f : Framework) → Ordinary m (on_teardown m f)
 tears_down m f = if_ordinary m (list_any (λ s. not (has_numbers 1 s)) (sides_with_tasks m f.id)) (refused m LimitExceeded) torn (refuses m LimitExceeded) (plain m torn (each_append IsPlain (withdraws (is_of f.id) m) (TearDownAll f.id ∷ map (λ s. AtSide s.name (SendEnd f.id)) (sides_with_tasks m f.id)) (withdraws_plain (is_of f.id) m) (tt, mapped_plain (λ (s : Side). AtSide s.name (SendEnd f.id)) (λ s. tt) (sides_with_tasks m f.id))) refl refl)
   where
-    torn : Doing
+    torn : MasterEffect
     torn = record { refusal = None; moves = withdraws (is_of f.id) m ++ TearDownAll f.id ∷ map (λ s. AtSide s.name (SendEnd f.id)) (sides_with_tasks m f.id); events = []; opens = []; closes = to_list f.stream; registers = with_framework m.registers (record f { stream = None }) }
 
 accepts : (m : Master) (f : Framework) (ids : List Numbered) (seconds : ℕ) (g : Option Given) (x : Accepting) → Ordinary m (accepted_as m f ids seconds g x)
@@ -83,7 +83,7 @@ reconciled : (m : Master) (asked : List ReconciledTask) (f : Framework) → Ordi
 reconciled m [] f = plain m (on_reconcile m [] f) tt refl refl
 reconciled m (a ∷ more) f = plain m (on_reconcile m (a ∷ more) f) tt refl refl
 
-pub called_ordinary : (m : Master) (stream : Option Numbered) (call : Call) → Ordinary m (called m stream call)
+pub called_ordinary : (m : Master) (stream : Option Numbered) (call : Call) → Ordinary m (call_effect m stream call)
 called_ordinary m stream (Subscribe None role) = if_ordinary m (nat_le frameworks_limit (length m.registers.frameworks) || nat_le last_number m.registers.last_framework || nat_le last_number m.registers.last_stream) (refused m LimitExceeded) (subscribed m (record m.registers { last_framework = suc m.registers.last_framework }) (record { run = m.run.number; n = suc m.registers.last_framework }) role None) (refuses m LimitExceeded)
     (subscribes m (record m.registers { last_framework = suc m.registers.last_framework }) (record { run = m.run.number; n = suc m.registers.last_framework }) role None refl)
 called_ordinary m stream (Subscribe (Some id) role) = if_ordinary m (is_unassigned m id) (refused m NoSuchFramework) (if nat_le last_number m.registers.last_stream then refused m LimitExceeded else (if is_torn m id then removed m else resubscribed m id role (framework_of m id))) (refuses m NoSuchFramework)
@@ -118,7 +118,7 @@ turned m s mail (Some WrongStream) = plain m (mailed_as m s mail (Some WrongStre
 turned m s mail (Some NoSuchFramework) = plain m (mailed_as m s mail (Some NoSuchFramework)) (tt, tt) refl refl
 turned m s mail (Some LimitExceeded) = plain m (mailed_as m s mail (Some LimitExceeded)) (tt, tt) refl refl
 
-pub mailed_ordinary : (m : Master) (s : Side) (mail : AgentMail) → Ordinary m (mailed m s mail)
+pub mailed_ordinary : (m : Master) (s : Side) (mail : AgentMail) → Ordinary m (mail_effect m s mail)
 mailed_ordinary m s mail = turned m s mail (judged m.run s mail)
 
 pub ticked_ordinary : (m : Master) (now : ℕ) → Ordinary m (ticked m now)
@@ -127,7 +127,7 @@ ticked_ordinary m now = plain m (ticked m now) (mapped_plain ticks (λ s. tt) m.
 pub lost_ordinary : (m : Master) (s : Side) → Ordinary m (agent_lost m s)
 lost_ordinary m s = if_ordinary m s.is_open lost (nothing m) (plain m lost (tt, (tt, tt)) refl refl) (does_nothing m)
   where
-    lost : Doing
+    lost : MasterEffect
     lost = record { refusal = None; moves = AtSide s.name Lose ∷ AtSide s.name SendHello ∷ []; events = rescinds m s.offers ++ loses m s.name s.booked ++ events_to_all m.registers.frameworks (Failure s.name); opens = []; closes = []; registers = without_filters_on s.name m.registers }
 
 hung_by : (m : Master) (stream : Numbered) (o : Option Framework) → Ordinary m (hung_up_by m stream o)

@@ -3,13 +3,13 @@ use Rattle.std.proofs.Common.{◌≡◌, ℕ, List, Option, Some, None, refl, sy
 use Rattle.std.specs.Prelude.{option_map}
 use Rattle.std.proofs.lemmas.Option.{slice_get-map}
 use Rattle.names_core.specs.Ids.{Numbered}
-use Rattle.mails.specs.declared.call.Call.{Call}
-use Rattle.mails.specs.declared.mail.MasterMail.{MasterMail}
-use Rattle.mails.specs.declared.mail.AgentMail.{AgentMail}
-use Rattle.mails.specs.declared.mail.ToAgent.{ToAgent}
-use Rattle.mails.specs.declared.mail.ToMaster.{ToMaster}
+use Rattle.messages.specs.declared.call.Call.{Call}
+use Rattle.messages.specs.declared.mail.MasterMail.{MasterMail}
+use Rattle.messages.specs.declared.mail.AgentMail.{AgentMail}
+use Rattle.messages.specs.declared.mail.ToAgent.{ToAgent}
+use Rattle.messages.specs.declared.mail.ToMaster.{ToMaster}
 use Rattle.cluster_model.specs.Channels.{Channel}
-use Rattle.cluster_histories.specs.Clusters.{Cluster, Post, Called, Down, Up}
+use Rattle.cluster_model.specs.Clusters.{Cluster, Post, Called, Down, Up}
 use Rattle.cluster_laws.specs.Items.{channel_at, to_agent, to_master, down_item, up_item, item_of, Item, Stand, StandIn}
 use Rattle.cluster_laws.specs.declared.item.Item.TheVariants as items
 use Rattle.cluster_laws.specs.Premises.{IsDown, IsUp}

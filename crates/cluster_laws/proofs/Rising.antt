@@ -6,27 +6,27 @@ use Rattle.std.proofs.lemmas.Bool.{and_parts, cond_both}
 use Rattle.names_core.specs.Ids.{Numbered, before}
 use Rattle.names_core.specs.declared.state.TaskState.{TaskState}
 use Rattle.stream_core.specs.Updates.{is_full}
-use Rattle.mails.specs.declared.mail.AgentMail.{AgentMail}
-use Rattle.mails.specs.declared.mail.AgentMail.TheVariants.{Report, Applied, Update}
-use Rattle.mails.specs.declared.mail.Command.{Command}
-use Rattle.mails.specs.declared.mail.Command.TheVariants.{Launch, Kill, Ack, EndFramework}
-use Rattle.mails.specs.declared.mail.MasterMail.{MasterMail}
-use Rattle.mails.specs.declared.mail.MasterMail.TheVariants.{Hello, Issued}
-use Rattle.mails.specs.declared.record.Durable.{Durable}
-use Rattle.mails.specs.declared.record.RecordedTask.{RecordedTask}
-use Rattle.mails.specs.declared.cause.Cause.{Cause}
-use Rattle.mails.specs.declared.cause.Cause.TheVariants.{Start, Mail, Executor, Again}
-use Rattle.mails.specs.Causes.{task_state}
-use Rattle.mails.specs.declared.refusal.AgentRefusal.{AgentRefusal}
-use Rattle.mails.specs.declared.refusal.AgentRefusal.TheVariants.{OldSession, NotNext, NoSuchTask, Ended, NoRoom, UpdatesFull, SessionsSpent}
+use Rattle.messages.specs.declared.mail.AgentMail.{AgentMail}
+use Rattle.messages.specs.declared.mail.AgentMail.TheVariants.{Report, Applied, Update}
+use Rattle.messages.specs.declared.mail.Command.{Command}
+use Rattle.messages.specs.declared.mail.Command.TheVariants.{Launch, Kill, Ack, EndFramework}
+use Rattle.messages.specs.declared.mail.MasterMail.{MasterMail}
+use Rattle.messages.specs.declared.mail.MasterMail.TheVariants.{Hello, Issued}
+use Rattle.messages.specs.declared.record.RecordParts.{RecordParts}
+use Rattle.messages.specs.declared.record.RecordedTask.{RecordedTask}
+use Rattle.messages.specs.declared.cause.Cause.{Cause}
+use Rattle.messages.specs.declared.cause.Cause.TheVariants.{Start, Mail, Executor, Again}
+use Rattle.messages.specs.Causes.{task_state}
+use Rattle.messages.specs.declared.refusal.AgentRefusal.{AgentRefusal}
+use Rattle.messages.specs.declared.refusal.AgentRefusal.TheVariants.{OldSession, NotNext, NoSuchTask, Ended, NoRoom, UpdatesFull, SessionsSpent}
 use Rattle.cluster_model.specs.Ids.{last_number}
 use Rattle.cluster_model.specs.Agents.{Agent, Draft, has_ended, is_task, state_at, reported, front_of, fronts, front_at, owning, reopened, reports, opens_next, starts, stated, is_front_at, fronts_after, with_tasks, after_command, applies, has_room, receives_mail, needs_place, executes, next_of}
 use Rattle.cluster_model.specs.Channels.{is_own}
-use Rattle.cluster_histories.specs.Steps.{Setup, Marked, history}
+use Rattle.cluster_model.specs.Steps.{Setup, Marked, history}
 use Rattle.agent_core.specs.Records.{keys_rise, rise_behind}
 use Rattle.agent_core.proofs.Places.{before_both}
 use Rattle.agent_core.proofs.Recorded.{command_rises, stated_rises}
-use Rattle.side_fits.specs.Fits.{KeysRise}
+use Rattle.cluster_model.specs.Fits.{KeysRise}
 use Rattle.cluster_laws.specs.Premises.{AreRecorded, IsRecorded}
 use Rattle.cluster_laws.proofs.Lists.{each_all, each_flat, each_map}
 use Rattle.cluster_laws.proofs.Agents.{AllOk, all_if, starts_ok, Rules, WorldOk, world_ok, opened_ok}
@@ -141,6 +141,6 @@ rising_kept = record {
   stops = λ name a h. h;
 }
 
-pub history_rises : (setup : Setup) (records : List Durable) (steps : List Marked) → AreRecorded records → WorldOk Rises MailRises (history setup records steps).state.world
+pub history_rises : (setup : Setup) (records : List RecordParts) (steps : List Marked) → AreRecorded records → WorldOk Rises MailRises (history setup records steps).state.world
 history_rises setup records steps h =
-    reached (WorldOk Rises MailRises) (world_ok Rises MailRises rising_kept) setup records steps (opened_ok Rises MailRises records (each_map IsRecorded (λ (d : Durable). keys_rise d.tasks ≡ true) (λ d r. r.rising) records h))
+    reached (WorldOk Rises MailRises) (world_ok Rises MailRises rising_kept) setup records steps (opened_ok Rises MailRises records (each_map IsRecorded (λ (d : RecordParts). keys_rise d.tasks ≡ true) (λ d r. r.rising) records h))

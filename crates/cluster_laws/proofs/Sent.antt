@@ -2,13 +2,13 @@
 use Rattle.std.proofs.Common.{◌≡◌, ℕ, suc, List, [], ◌∷◌, ◌++◌, length, length-append, map, Some, refl, sym, ap, ◌∙◌, subst, append_assoc, slice_get, arith}
 use Rattle.std.specs.List.{AllByRecursion as Each}
 use Rattle.std.proofs.lemmas.List.{map-append}
-use Rattle.mails.specs.declared.mail.MasterMail.{MasterMail}
-use Rattle.mails.specs.declared.mail.AgentMail.{AgentMail}
+use Rattle.messages.specs.declared.mail.MasterMail.{MasterMail}
+use Rattle.messages.specs.declared.mail.AgentMail.{AgentMail}
 use Rattle.cluster_model.specs.Channels.{Channel, World, Happening, after, after_all}
-use Rattle.cluster_histories.specs.Clusters.{Post, Down, Up}
-use Rattle.cluster_steps.specs.declared.verdict.Sent.{Sent}
-use Rattle.cluster_steps.specs.declared.verdict.Sent.TheVariants.{ToAgent as MailToAgent, ToMaster as MailToMaster}
-use Rattle.cluster_histories.specs.Steps.{places, new_to_agent, new_to_master, sent_in, posts_in, sent_between, posts_between, sent_by, posts_by}
+use Rattle.cluster_model.specs.Clusters.{Post, Down, Up}
+use Rattle.messages.specs.declared.steps.verdict.Sent.{Sent}
+use Rattle.messages.specs.declared.steps.verdict.Sent.TheVariants.{ToAgent as MailToAgent, ToMaster as MailToMaster}
+use Rattle.cluster_model.specs.Steps.{places, new_to_agent, new_to_master, sent_in, posts_in, sent_between, posts_between, sent_by, posts_by}
 use Rattle.cluster_model.specs.Openings.{NamesOnce}
 use Rattle.cluster_laws.specs.Items.{names_of, channel_at, to_agent, to_master, down_item, up_item, item_of, Item, Stand, item_sent, items_sent}
 use Rattle.cluster_laws.proofs.Lists.{cons_same, append_same, get_seam, behind_is}

@@ -6,33 +6,33 @@ use Rattle.std.proofs.lemmas.Bool.{cond_both}
 use Rattle.std.proofs.lemmas.Bool.Decides.{nat_tests}
 use Rattle.std.proofs.lemmas.List.{map-append}
 use Rattle.names_core.specs.Ids.{Numbered, same, before}
-use Rattle.mails.specs.declared.mail.AgentMail.{AgentMail}
-use Rattle.mails.specs.declared.mail.MasterMail.{MasterMail}
-use Rattle.mails.specs.declared.record.Durable.{Durable}
-use Rattle.mails.specs.declared.cause.Cause.TheVariants.{Start, Executor, Again}
-use Rattle.mails.specs.declared.refusal.AgentRefusal.{AgentRefusal}
-use Rattle.mails.specs.declared.refusal.AgentRefusal.TheVariants.{NotForMe}
+use Rattle.messages.specs.declared.mail.AgentMail.{AgentMail}
+use Rattle.messages.specs.declared.mail.MasterMail.{MasterMail}
+use Rattle.messages.specs.declared.record.RecordParts.{RecordParts}
+use Rattle.messages.specs.declared.cause.Cause.TheVariants.{Start, Executor, Again}
+use Rattle.messages.specs.declared.refusal.AgentRefusal.{AgentRefusal}
+use Rattle.messages.specs.declared.refusal.AgentRefusal.TheVariants.{NotForMe}
 use Rattle.cluster_model.specs.Ids.{last_number, last_run}
 use Rattle.cluster_model.specs.Agents.{Draft, receives_mail, next_of}
 use Rattle.cluster_model.specs.Sides.{Run}
 use Rattle.cluster_model.specs.Channels.{Channel, AgentStep, Draw, DrawMail, Adopt, StopWithout, StopWith, Receive, ByAgent, Happening, At, Restart, Halt, after, after_all}
 use Rattle.cluster_model.specs.Events.{Event, StreamEvent}
-use Rattle.cluster_model.specs.Masters.{Doing, new_registers}
-use Rattle.cluster_model.specs.Calls.{called, new_stream}
-use Rattle.cluster_model.specs.Mails.{mailed, ticked, agent_lost, hung_up}
+use Rattle.cluster_model.specs.Masters.{MasterEffect, new_registers}
+use Rattle.cluster_model.specs.Calls.{call_effect, new_stream}
+use Rattle.cluster_model.specs.Mails.{mail_effect, ticked, agent_lost, hung_up}
 use Rattle.cluster_model.specs.Rounds.{allocated}
-use Rattle.cluster_histories.specs.Clusters.{Stream, Post, Called, Down, Up, Cluster, master_of}
-use Rattle.cluster_steps.specs.declared.step.StepCause.{StepCause}
-use Rattle.cluster_steps.specs.declared.step.StepCause.TheVariants.{Start as ByStart, Again as ByAgain, Executor as ByExecutor, Mail as ByMail}
-use Rattle.cluster_steps.specs.declared.step.Step.{Step}
-use Rattle.cluster_steps.specs.declared.step.Step.TheVariants.{Send, Deliver, Allocate, Tick, LoseAgent, HangUp, Prepare, Commit, StopAgent, StopMaster, Take}
-use Rattle.cluster_steps.specs.declared.step.Keep.TheVariants.{Before, After}
-use Rattle.cluster_steps.specs.declared.fault.ClusterFault.{ClusterFault}
-use Rattle.cluster_steps.specs.declared.fault.ClusterFault.TheVariants.{MasterDown, AgentDown, DraftOpen, NoDraft, HistoryFull, TimeBack}
-use Rattle.cluster_steps.specs.declared.verdict.Verdict.{Verdict}
-use Rattle.cluster_steps.specs.declared.verdict.Verdict.TheVariants.{Ok as Fine, AgentRefused, OutOfMemory as Fell}
-use Rattle.cluster_histories.specs.Steps as steps
-use Rattle.cluster_histories.specs.Steps.{Setup, Done, done, does, happening, effect_of, happening_of, master_does, master_receives, channel_of, delivers_up, delivers, post_at, with_tick, ticks_at, stream_at, hangs_up, loses_agent, hello_to, drafts, draws_mail_at, draws_mail, prepares, commits, up_again, stops, with_master, at_channel, is_fallen, if_up, by_draft, without_draft, with_draft, takes_one, takes_event, takes, answer, master_falls, new_master_falls, fallen_too, agent_falls, instead, fallen_answer, Marked, step_marked, receives, streams_after, History, opened_over, opening, extended, extend_all, history}
+use Rattle.cluster_model.specs.Clusters.{Stream, Post, Called, Down, Up, Cluster, master_of}
+use Rattle.messages.specs.declared.steps.step.StepCause.{StepCause}
+use Rattle.messages.specs.declared.steps.step.StepCause.TheVariants.{Start as ByStart, Again as ByAgain, Executor as ByExecutor, Mail as ByMail}
+use Rattle.messages.specs.declared.steps.step.Step.{Step}
+use Rattle.messages.specs.declared.steps.step.Step.TheVariants.{Send, Deliver, Allocate, Tick, LoseAgent, HangUp, Prepare, Commit, StopAgent, StopMaster, Take}
+use Rattle.messages.specs.declared.steps.step.Keep.TheVariants.{Before, After}
+use Rattle.messages.specs.declared.steps.fault.ClusterFault.{ClusterFault}
+use Rattle.messages.specs.declared.steps.fault.ClusterFault.TheVariants.{MasterDown, AgentDown, DraftOpen, NoDraft, HistoryFull, TimeBack}
+use Rattle.messages.specs.declared.steps.verdict.Verdict.{Verdict}
+use Rattle.messages.specs.declared.steps.verdict.Verdict.TheVariants.{Ok as Fine, AgentRefused, OutOfMemory as Fell}
+use Rattle.cluster_model.specs.Steps as steps
+use Rattle.cluster_model.specs.Steps.{Setup, Done, done, does, happening, effect_of, happening_of, master_does, master_receives, channel_of, delivers_up, delivers, post_at, with_tick, ticks_at, stream_at, hangs_up, loses_agent, hello_to, drafts, draws_mail_at, draws_mail, prepares, commits, up_again, stops, with_master, at_channel, is_fallen, if_up, by_draft, without_draft, with_draft, takes_one, takes_event, takes, answer, master_falls, new_master_falls, fallen_too, agent_falls, instead, fallen_answer, Marked, step_marked, receives, streams_after, History, opened_over, opening, extended, extend_all, history}
 use Rattle.cluster_laws.specs.Runs.{SameRun, OpensNext, ids_of, AreRising}
 use Rattle.cluster_laws.proofs.Lists.{each_append, each_map, cons_same}
 use Rattle.cluster_laws.proofs.Ordinary.{Ordinary, called_ordinary, allocated_ordinary, ticked_ordinary, lost_ordinary, hung_ordinary, mailed_ordinary}
@@ -136,7 +136,7 @@ ids_with c opens others told new last known o l ok = subst (λ xs. StreamsOk xs 
 ids_without : (c : Cluster) (told : List StreamEvent) (new : Run) (last : ℕ) → StreamsOk (ids_of c.streams) new last → StreamsOk (ids_of (streams_after c.streams [] told)) new last
 ids_without c told new last ok = ids_with c [] [] told new last last refl refl (subst (λ xs. StreamsOk xs new last) (sym (append-nil (ids_of c.streams))) ok)
 
-master_streamed : (c : Cluster) (first : List Happening) (d : Doing) → Each IsWithinRun first → Ordinary (master_of c) d → c.world.run.serves ≡ true → ClusterOk c → ClusterOk (done c (effect_of first d)).after
+master_streamed : (c : Cluster) (first : List Happening) (d : MasterEffect) → Each IsWithinRun first → Ordinary (master_of c) d → c.world.run.serves ≡ true → ClusterOk c → ClusterOk (done c (effect_of first d)).after
 master_streamed c first d h ordinary serves ok = by ordinary.opens
   where
     new : Run
@@ -180,12 +180,12 @@ by_test c false x y p q = q
 with_master_streamed : (c : Cluster) (r : Result Done ClusterFault) → (c.world.run.serves ≡ true → Streamed c r) → Streamed c (with_master c r)
 with_master_streamed c r p = cond_both c.world.run.serves r (Err MasterDown) (Streamed c) p (λ e. tt)
 
-does_streamed : (c : Cluster) (d : Doing) → Ordinary (master_of c) d → c.world.run.serves ≡ true → Streamed c (master_does c d)
+does_streamed : (c : Cluster) (d : MasterEffect) → Ordinary (master_of c) d → c.world.run.serves ≡ true → Streamed c (master_does c d)
 does_streamed c d ordinary serves = λ ok. master_streamed c [] d tt ordinary serves ok
 
 receives_streamed : (c : Cluster) (x : Channel) (place : ℕ) (mail : Option AgentMail) → c.world.run.serves ≡ true → Streamed c (master_receives c x place mail)
 receives_streamed c x place None serves = tt
-receives_streamed c x place (Some mail) serves = λ ok. master_streamed c (At x.side.name (Receive place) ∷ []) (mailed (master_of c) x.side mail) (tt, tt) (mailed_ordinary (master_of c) x.side mail) serves ok
+receives_streamed c x place (Some mail) serves = λ ok. master_streamed c (At x.side.name (Receive place) ∷ []) (mail_effect (master_of c) x.side mail) (tt, tt) (mailed_ordinary (master_of c) x.side mail) serves ok
 
 delivers_up_streamed : (c : Cluster) (place : ℕ) (x : Option Channel) → c.world.run.serves ≡ true → Streamed c (delivers_up c place x)
 delivers_up_streamed c place None serves = tt
@@ -193,7 +193,7 @@ delivers_up_streamed c place (Some x) serves = receives_streamed c x place (slic
 
 delivers_streamed : (c : Cluster) (p : Option Post) → c.world.run.serves ≡ true → Streamed c (delivers c p)
 delivers_streamed c None serves = tt
-delivers_streamed c (Some (Called stream call)) serves = does_streamed c (called (master_of c) stream call) (called_ordinary (master_of c) stream call) serves
+delivers_streamed c (Some (Called stream call)) serves = does_streamed c (call_effect (master_of c) stream call) (called_ordinary (master_of c) stream call) serves
 delivers_streamed c (Some (Down agent place)) serves = tt
 delivers_streamed c (Some (Up agent place)) serves = delivers_up_streamed c place (channel_of c agent) serves
 
@@ -301,8 +301,8 @@ all_streamed : (h : History) (ss : List Marked) → ClusterOk h.state → Cluste
 all_streamed h [] ok = ok
 all_streamed h (s ∷ ss) ok = all_streamed (extended h s.step (step_marked h.state s)) ss (extended_streamed h s.step (step_marked h.state s) (step_streamed h.state s) ok)
 
-opened_streamed : (setup : Setup) (records : List Durable) → ClusterOk (opening setup records).state
+opened_streamed : (setup : Setup) (records : List RecordParts) → ClusterOk (opening setup records).state
 opened_streamed setup records = quiet_streamed (opened_over setup records) Fine (map hello_to (opened_over setup records).world.channels) (hellos_within (opened_over setup records).world.channels) (record { rising = tt; runs = tt; given = λ e. tt })
 
-pub history_streams : (setup : Setup) (records : List Durable) (ss : List Marked) → AreRising (ids_of (history setup records ss).state.streams)
+pub history_streams : (setup : Setup) (records : List RecordParts) (ss : List Marked) → AreRising (ids_of (history setup records ss).state.streams)
 history_streams setup records ss = (all_streamed (opening setup records) ss (opened_streamed setup records)).rising

@@ -5,16 +5,16 @@ use Rattle.std.specs.List.{AllByRecursion as Each}
 use Rattle.std.proofs.lemmas.Bool.{cond_both}
 use Rattle.names_core.specs.Ids.{Numbered}
 use Rattle.quantity.specs.declared.rows.Row.{Row}
-use Rattle.mails.specs.declared.task.Job.{Job}
-use Rattle.mails.specs.declared.mail.Command.{Command}
-use Rattle.mails.specs.declared.mail.Command.TheVariants.{Launch, Kill, Ack, EndFramework}
-use Rattle.mails.specs.declared.mail.MasterMail.TheVariants.{Issued}
+use Rattle.messages.specs.declared.task.Job.{Job}
+use Rattle.messages.specs.declared.mail.Command.{Command}
+use Rattle.messages.specs.declared.mail.Command.TheVariants.{Launch, Kill, Ack, EndFramework}
+use Rattle.messages.specs.declared.mail.MasterMail.TheVariants.{Issued}
 use Rattle.cluster_model.specs.Ids.{following, is_among}
 use Rattle.cluster_model.specs.Sides.{Run, Side, Sending, sends_nothing, issue, books, offer_rows, Launching, may_launch, launch_one, launch_all, is_good, used_offers, without_used, may_offer, SideStep, MakeOffer, Withdraw, LaunchFrom, SendKill, SendAck, SendEnd, SendHello, SendAgain, Lose, side_step}
 use Rattle.cluster_model.specs.Channels.{Channel, ChannelStep, ByMaster, Receive, ByAgent, happens, World, Happening, At, TearDown, Restart, Halt, behind, in_front, at_agent, after, after_all}
-use Rattle.cluster_model.specs.Masters.{Move, AtSide, TearDownAll, RestartAll, HaltAll, Doing}
-use Rattle.cluster_histories.specs.Clusters.{Cluster}
-use Rattle.cluster_histories.specs.Steps.{done, effect_of, happening_of}
+use Rattle.cluster_model.specs.Masters.{Move, AtSide, TearDownAll, RestartAll, HaltAll, MasterEffect}
+use Rattle.cluster_model.specs.Clusters.{Cluster}
+use Rattle.cluster_model.specs.Steps.{done, effect_of, happening_of}
 use Rattle.cluster_laws.specs.Runs.{SameRun, KeepsRun, IsPlain}
 
 pub same_run : (run : Run) → SameRun run run
@@ -82,8 +82,8 @@ moves_within (TearDownAll framework ∷ ms) h = (tt, moves_within ms h.1)
 moves_within (RestartAll ∷ ms) h = absurd h.0
 moves_within (HaltAll ∷ ms) h = absurd h.0
 
-pub keeps_run : (c : Cluster) (d : Doing) → Each IsPlain d.moves → KeepsRun c d
+pub keeps_run : (c : Cluster) (d : MasterEffect) → Each IsPlain d.moves → KeepsRun c d
 keeps_run c d h = worlds_run (map happening_of d.moves) c.world (moves_within d.moves h)
 
-pub receives_run : (c : Cluster) (agent : List ℕ) (place : ℕ) (d : Doing) → Each IsPlain d.moves → SameRun c.world.run (done c (effect_of (At agent (Receive place) ∷ []) d)).after.world.run
+pub receives_run : (c : Cluster) (agent : List ℕ) (place : ℕ) (d : MasterEffect) → Each IsPlain d.moves → SameRun c.world.run (done c (effect_of (At agent (Receive place) ∷ []) d)).after.world.run
 receives_run c agent place d h = worlds_run (At agent (Receive place) ∷ map happening_of d.moves) c.world (tt, moves_within d.moves h)

@@ -1,15 +1,15 @@
 -- The item of each post: code keeps one list of all that was ever sent, in the order of sending.
 use Rattle.std.specs.Prelude.{◌≡◌, ℕ, List, [], ◌∷◌, map, flat_map, slice_get, Option, Some, None, option_map, bytes_eq}
 use Rattle.std.specs.List.{find}
-use Rattle.mails.specs.declared.mail.MasterMail.{MasterMail}
-use Rattle.mails.specs.declared.mail.AgentMail.{AgentMail}
+use Rattle.messages.specs.declared.mail.MasterMail.{MasterMail}
+use Rattle.messages.specs.declared.mail.AgentMail.{AgentMail}
 use Rattle.cluster_model.specs.Channels.{Channel}
-use Rattle.cluster_histories.specs.Clusters.{Post, Called, Down, Up, Cluster}
-use Rattle.cluster_steps.specs.declared.step.Step.{Step}
-use Rattle.cluster_steps.specs.declared.step.Step.TheVariants.{Send}
-use Rattle.cluster_steps.specs.declared.verdict.Sent.{Sent}
-use Rattle.cluster_steps.specs.declared.verdict.Sent.TheVariants.{Call as CallSent, ToAgent as MailToAgent, ToMaster as MailToMaster}
-use Rattle.cluster_histories.specs.Steps.{Done}
+use Rattle.cluster_model.specs.Clusters.{Post, Called, Down, Up, Cluster}
+use Rattle.messages.specs.declared.steps.step.Step.{Step}
+use Rattle.messages.specs.declared.steps.step.Step.TheVariants.{Send}
+use Rattle.messages.specs.declared.steps.verdict.Sent.{Sent}
+use Rattle.messages.specs.declared.steps.verdict.Sent.TheVariants.{Call as CallSent, ToAgent as MailToAgent, ToMaster as MailToMaster}
+use Rattle.cluster_model.specs.Steps.{Done}
 pub use Rattle.cluster_laws.specs.declared.item.Item.{Item}
 use Rattle.cluster_laws.specs.declared.item.Item.TheVariants as items
 

@@ -1,16 +1,16 @@
 -- The agents' own parts of a cluster, and what each step leaves of them and of the master.
 use Rattle.std.specs.Prelude.{◌≡◌, ◌+◌, ℕ, List, map, Option, None, ⊤}
-use Rattle.mails.specs.declared.mail.AgentMail.{AgentMail}
-use Rattle.mails.specs.declared.record.Durable.{Durable}
-use Rattle.agent_sides.specs.Configs.{names_of}
-use Rattle.agent_sides.specs.declared.config.ConfiguredAgent.{ConfiguredAgent}
+use Rattle.messages.specs.declared.mail.AgentMail.{AgentMail}
+use Rattle.messages.specs.declared.record.RecordParts.{RecordParts}
+use Rattle.master_agents.specs.Configs.{names_of}
+use Rattle.master_agents.specs.declared.config.ConfiguredAgent.{ConfiguredAgent}
 use Rattle.cluster_model.specs.Agents.{Agent, Draft, recovered_from}
 use Rattle.cluster_model.specs.Sides.{SendHello, restarted, new_run}
 use Rattle.cluster_model.specs.Channels.{Channel, AgentStep, Draw, DrawMail, Adopt, StopWithout, StopWith, Restart, after}
-use Rattle.cluster_model.specs.Masters.{AtSide, Doing, Master, moving, new_registers}
-use Rattle.cluster_histories.specs.Clusters.{Cluster}
-use Rattle.cluster_steps.specs.declared.verdict.Sent.{Sent}
-use Rattle.cluster_steps.specs.declared.verdict.Sent.TheVariants.{ToMaster as MailToMaster}
+use Rattle.cluster_model.specs.Masters.{AtSide, MasterEffect, Master, moving, new_registers}
+use Rattle.cluster_model.specs.Clusters.{Cluster}
+use Rattle.messages.specs.declared.steps.verdict.Sent.{Sent}
+use Rattle.messages.specs.declared.steps.verdict.Sent.TheVariants.{ToMaster as MailToMaster}
 
 -- an agent with its draft
 pub record Part : Type 0 where
@@ -25,7 +25,7 @@ abbrev pub parts_of : List Channel → List Part
 parts_of cs = map part_of cs
 
 -- the agents as they come up over their records
-abbrev pub recovered_part : Durable → Part
+abbrev pub recovered_part : RecordParts → Part
 recovered_part d = record { name = d.name; agent = recovered_from d; draft = None }
 
 -- a step of an agent that sends nothing
@@ -41,7 +41,7 @@ abbrev pub from_agent : List ℕ → AgentMail → Sent
 from_agent agent mail = MailToMaster (record { agent = agent; mail = mail })
 
 -- a Hello to every agent
-abbrev pub greeting : Master → Doing
+abbrev pub greeting : Master → MasterEffect
 greeting m = moving m (map (λ s. AtSide s.name SendHello) m.sides)
 
 -- the cluster with a new master of the next run, which has not yet greeted
@@ -58,9 +58,9 @@ next_master m =
     }
 
 -- the agent of a record, with what the record says that it owns
-abbrev pub configured : Durable → ConfiguredAgent
+abbrev pub configured : RecordParts → ConfiguredAgent
 configured d = record { name = d.name; total = d.total }
 
 -- configured agents are those of the records, in their order
-abbrev pub AreAgentsOf : List ConfiguredAgent → List Durable → Type 0
+abbrev pub AreAgentsOf : List ConfiguredAgent → List RecordParts → Type 0
 AreAgentsOf agents records = names_of agents ≡ map (λ d. d.name) records

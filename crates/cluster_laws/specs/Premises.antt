@@ -2,21 +2,21 @@
 use Rattle.std.specs.Prelude.{◌≡◌, ℕ, true, List, slice_get, Some}
 use Rattle.std.specs.List.{AllByRecursion as Each}
 use Rattle.stream_core.specs.Updates.{are_updates}
-use Rattle.mails.specs.declared.mail.ToAgent.{ToAgent}
-use Rattle.mails.specs.declared.mail.ToMaster.{ToMaster}
-use Rattle.mails.specs.declared.record.Durable.{Durable}
+use Rattle.messages.specs.declared.mail.ToAgent.{ToAgent}
+use Rattle.messages.specs.declared.mail.ToMaster.{ToMaster}
+use Rattle.messages.specs.declared.record.RecordParts.{RecordParts}
 use Rattle.cluster_model.specs.Channels.{Channel}
-use Rattle.cluster_histories.specs.Clusters.{Cluster, Down, Up}
-use Rattle.cluster_histories.specs.Steps.{channel_of}
+use Rattle.cluster_model.specs.Clusters.{Cluster, Down, Up}
+use Rattle.cluster_model.specs.Steps.{channel_of}
 use Rattle.agent_core.specs.Records.{keys_rise}
 
 -- a record is as every value of its type: the tasks have updates as every value of the type
 -- `Updates` is, and their launch keys rise
-pub record IsRecorded (d : Durable) : Type 0 where
+pub record IsRecorded (d : RecordParts) : Type 0 where
   pub updates : Each (λ t. are_updates t.updates.states t.updates.acknowledged ≡ true) d.tasks
   pub rising : keys_rise d.tasks ≡ true
 
-abbrev pub AreRecorded : List Durable → Type 0
+abbrev pub AreRecorded : List RecordParts → Type 0
 AreRecorded records = Each IsRecorded records
 
 -- the post at a place of all posts is this mail to an agent, in its channel

@@ -1,8 +1,8 @@
 //! What was sent.
 
-use mails::{Call as SentCall, ToAgent, ToMaster};
+use messages::{Call as SentCall, ToAgent, ToMaster};
 use names_core::StreamId;
-use shared_value::Shared;
+use values::Shared;
 
 /// A call with the stream that it came with, or a mail with its agent.
 /// It is shared with the entry that sent it.

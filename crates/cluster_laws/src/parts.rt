@@ -5,23 +5,23 @@ ghost use Rattle.cluster_laws.specs.Items.{names_of};
 ghost use Rattle.cluster_laws.specs.Parts.{IsSilent, anew, from_agent, greeting, next_master, part_of, parts_of, recovered_part};
 ghost use Rattle.cluster_model.specs.Agents.{Draft, receives_mail, next_of, recovered};
 ghost use Rattle.cluster_model.specs.Channels.{Adopt, AgentStep, At, ByAgent, Channel, Draw, DrawMail, Receive, StopWith, StopWithout, agent_step, is_own};
-ghost use Rattle.cluster_histories.specs.Clusters.{Cluster, master_of};
-ghost use Rattle.cluster_steps.specs.declared.verdict.Verdict.{Verdict};
+ghost use Rattle.cluster_model.specs.Clusters.{Cluster, master_of};
+ghost use Rattle.messages.specs.declared.steps.verdict.Verdict.{Verdict};
 ghost use Rattle.cluster_model.specs.Ids.{last_run};
-ghost use Rattle.cluster_model.specs.Masters.{Doing};
+ghost use Rattle.cluster_model.specs.Masters.{MasterEffect};
 ghost use Rattle.cluster_model.specs.Openings.{NamesOnce};
 ghost use Rattle.cluster_model.specs.Sides.{Side, new_side, restarted};
-ghost use Rattle.cluster_histories.specs.Steps.{Setup, agent_falls, done, effect_of, greets_all, happening, master_falls, master_stops, new_master_falls, open_cluster};
-ghost use Rattle.mails.specs.declared.cause.Cause.{Cause};
-ghost use Rattle.mails.specs.declared.mail.MasterMail.{MasterMail};
-ghost use Rattle.mails.specs.declared.record.Durable.{Durable};
+ghost use Rattle.cluster_model.specs.Steps.{Setup, agent_falls, done, effect_of, greets_all, happening, master_falls, master_stops, new_master_falls, open_cluster};
+ghost use Rattle.messages.specs.declared.cause.Cause.{Cause};
+ghost use Rattle.messages.specs.declared.mail.MasterMail.{MasterMail};
+ghost use Rattle.messages.specs.declared.record.RecordParts.{RecordParts};
 
 /// Whatever the master does or receives, and where it falls or stops, each agent and its draft stay
 /// as they are; the opening has the agents as they come up over their records.
 pub fn masters_leave_agents()
-    ensures does { (c : Cluster) (d : Doing)
+    ensures does { (c : Cluster) (d : MasterEffect)
         → parts_of (done c (effect_of [] d)).after.world.channels ≡ parts_of c.world.channels }
-    ensures receives { (c : Cluster) (agent : List ℕ) (place : ℕ) (d : Doing)
+    ensures receives { (c : Cluster) (agent : List ℕ) (place : ℕ) (d : MasterEffect)
         → parts_of (done c (effect_of (At agent (Receive place) ∷ []) d)).after.world.channels
         ≡ parts_of c.world.channels }
     ensures stops { (c : Cluster) → parts_of (done c (master_stops c)).after.world.channels
@@ -30,7 +30,7 @@ pub fn masters_leave_agents()
         ≡ parts_of c.world.channels }
     ensures new_falls { (c : Cluster) → parts_of (new_master_falls c).after.world.channels
         ≡ parts_of c.world.channels }
-    ensures opening { (setup : Setup) (records : List Durable) →
+    ensures opening { (setup : Setup) (records : List RecordParts) →
         parts_of (open_cluster setup records).after.world.channels ≡ map recovered_part records }
 {}
 

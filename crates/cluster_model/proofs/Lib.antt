@@ -1,1 +1,6 @@
 pub mod Following
+pub mod Weights
+pub mod Steps
+pub mod Receiving
+pub mod Keying
+pub mod Numbering

@@ -9,27 +9,27 @@ use Rattle.names_core.specs.States.{is_terminal}
 use Rattle.quantity.specs.declared.rows.Row.{Row}
 use Rattle.quantity.specs.Rows.{covers}
 use Rattle.stream_core.specs.Updates as updates
-use Rattle.mails.specs.declared.task.Job.{Job}
-use Rattle.mails.specs.declared.task.Booked.{Booked}
-use Rattle.mails.specs.declared.mail.Command.{Command}
-use Rattle.mails.specs.declared.mail.Command.TheVariants.{Launch, Kill, Ack, EndFramework}
-use Rattle.mails.specs.declared.mail.MasterMail.{MasterMail}
-use Rattle.mails.specs.declared.mail.MasterMail.TheVariants.{Hello, Issued}
-use Rattle.mails.specs.declared.mail.AgentMail.{AgentMail}
-use Rattle.mails.specs.declared.mail.AgentMail.TheVariants.{Report, Applied, Update}
-use Rattle.mails.specs.declared.record.Durable.{Durable}
-use Rattle.mails.specs.declared.record.RecordedTask.{RecordedTask}
-use Rattle.mails.specs.declared.cause.Cause.{Cause}
-use Rattle.mails.specs.declared.cause.Cause.TheVariants.{Start, Mail, Executor, Again}
-use Rattle.mails.specs.Causes.{task_state}
-use Rattle.mails.specs.declared.refusal.AgentRefusal.{AgentRefusal}
-use Rattle.mails.specs.declared.refusal.AgentRefusal.TheVariants.{NotForMe, OldSession, NotNext, NoSuchTask, Ended, NoRoom, UpdatesFull, SessionsSpent, TotalLess}
+use Rattle.messages.specs.declared.task.Job.{Job}
+use Rattle.messages.specs.declared.task.Booked.{Booked}
+use Rattle.messages.specs.declared.mail.Command.{Command}
+use Rattle.messages.specs.declared.mail.Command.TheVariants.{Launch, Kill, Ack, EndFramework}
+use Rattle.messages.specs.declared.mail.MasterMail.{MasterMail}
+use Rattle.messages.specs.declared.mail.MasterMail.TheVariants.{Hello, Issued}
+use Rattle.messages.specs.declared.mail.AgentMail.{AgentMail}
+use Rattle.messages.specs.declared.mail.AgentMail.TheVariants.{Report, Applied, Update}
+use Rattle.messages.specs.declared.record.RecordParts.{RecordParts}
+use Rattle.messages.specs.declared.record.RecordedTask.{RecordedTask}
+use Rattle.messages.specs.declared.cause.Cause.{Cause}
+use Rattle.messages.specs.declared.cause.Cause.TheVariants.{Start, Mail, Executor, Again}
+use Rattle.messages.specs.Causes.{task_state}
+use Rattle.messages.specs.declared.refusal.AgentRefusal.{AgentRefusal}
+use Rattle.messages.specs.declared.refusal.AgentRefusal.TheVariants.{NotForMe, OldSession, NotNext, NoSuchTask, Ended, NoRoom, UpdatesFull, SessionsSpent, TotalLess}
 use Rattle.cluster_model.specs.Ids.{last_number}
 
 -- an agent that runs: its record, whether its session is open,
 -- and how many commands of that session it has applied
 pub record Agent : Type 0 where
-  pub durable : Durable
+  pub durable : RecordParts
   pub open durable use *
   pub in_session : Bool
   pub applied : ℕ
@@ -99,7 +99,7 @@ report_of a = Report a.durable.session a.durable.run (map reported a.durable.tas
 -- sessions
 
 -- the record with another session, opened with a run
-abbrev pub with_session : Durable → ℕ → ℕ → Durable
+abbrev pub with_session : RecordParts → ℕ → ℕ → RecordParts
 with_session d session run =
     record { name = d.name; total = d.total; session = session; run = run; tasks = d.tasks }
 
@@ -279,9 +279,9 @@ next_of a (Executor key state) = executes a key (task_state state)
 -- records
 
 -- an agent that owns these resources and has never opened a session
-abbrev pub fresh : List ℕ → List Row → Durable
+abbrev pub fresh : List ℕ → List Row → RecordParts
 fresh name total = record { name = name; total = total; session = 0; run = 0; tasks = [] }
 
 -- an agent that comes up over its record
-abbrev pub recovered_from : Durable → Agent
+abbrev pub recovered_from : RecordParts → Agent
 recovered_from d = record { durable = d; in_session = false; applied = 0 }

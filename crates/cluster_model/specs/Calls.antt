@@ -6,16 +6,16 @@ use Rattle.names_core.specs.declared.state.TaskState.{TaskState}
 use Rattle.names_core.specs.declared.state.TaskState.TheVariants.{Lost, Error}
 use Rattle.quantity.specs.declared.rows.Row.{Row}
 use Rattle.quantity.specs.Rows.{covers, plus_rows, rest_of}
-use Rattle.mails.specs.declared.task.Job.{Job}
-use Rattle.mails.specs.declared.call.Call.{Call}
-use Rattle.mails.specs.declared.call.Call.TheVariants.{Subscribe, Teardown, Accept, Decline, Revive, Suppress, Kill, Acknowledge, Reconcile}
-use Rattle.mails.specs.declared.call.TaskInfo.{TaskInfo}
-use Rattle.mails.specs.declared.call.ReconciledTask.{ReconciledTask}
-use Rattle.mails.specs.declared.refusal.MasterRefusal.TheVariants.{NotSubscribed, WrongStream, NoSuchFramework, LimitExceeded}
+use Rattle.messages.specs.declared.task.Job.{Job}
+use Rattle.messages.specs.declared.call.Call.{Call}
+use Rattle.messages.specs.declared.call.Call.TheVariants.{Subscribe, Teardown, Accept, Decline, Revive, Suppress, Kill, Acknowledge, Reconcile}
+use Rattle.messages.specs.declared.call.TaskInfo.{TaskInfo}
+use Rattle.messages.specs.declared.call.ReconciledTask.{ReconciledTask}
+use Rattle.messages.specs.declared.refusal.MasterRefusal.TheVariants.{NotSubscribed, WrongStream, NoSuchFramework, LimitExceeded}
 use Rattle.cluster_model.specs.Ids.{following, each_once, is_empty, last_number}
 use Rattle.cluster_model.specs.Sides.{Side, LaunchFrom, SendKill, SendAck, SendEnd, is_named, is_good, used_offers, offer_rows, just_booked}
 use Rattle.cluster_model.specs.Events.{MadeOffer, StreamEvent, Subscribed, update_event, failover_error, removal_error}
-use Rattle.cluster_model.specs.Masters.{Master, Registers, Framework, Doing, Move, AtSide, TearDownAll, Placed, nothing, refused, saying, moving, keeping, framework_of, is_torn, with_framework, stream_of, on_stream, all_booked, put_placed, is_task_of, held_among, held, is_of, withdraws, add_filter, side_of, has_numbers, may_have_numbers, has_returned}
+use Rattle.cluster_model.specs.Masters.{Master, Registers, Framework, MasterEffect, Move, AtSide, TearDownAll, Placed, nothing, refused, saying, moving, keeping, framework_of, is_torn, with_framework, stream_of, on_stream, all_booked, put_placed, is_task_of, held_among, held, is_of, withdraws, add_filter, side_of, has_numbers, may_have_numbers, has_returned}
 
 -- SUBSCRIBE
 
@@ -42,7 +42,7 @@ subscriber m id role =
     }
 
 -- a framework is subscribed on a new stream; an open one of it closes, and its offers are withdrawn
-abbrev pub subscribed : Master → Registers → Numbered → List ℕ → Option Framework → Doing
+abbrev pub subscribed : Master → Registers → Numbered → List ℕ → Option Framework → MasterEffect
 subscribed m r id role known = record {
   refusal = None;
   moves = withdraws (is_of id) m;
@@ -54,7 +54,7 @@ subscribed m r id role known = record {
 }
 
 -- without id: the next one is assigned
-abbrev pub on_subscribe : Master → List ℕ → Doing
+abbrev pub on_subscribe : Master → List ℕ → MasterEffect
 on_subscribe m role =
     if nat_le frameworks_limit (length m.registers.frameworks)
     || nat_le last_number m.registers.last_framework
@@ -64,7 +64,7 @@ on_subscribe m role =
     (record { run = m.run.number; n = suc m.registers.last_framework }) role None
 
 -- a framework that was torn down gets a stream with an error alone
-abbrev pub removed : Master → Doing
+abbrev pub removed : Master → MasterEffect
 removed m = record {
   refusal = None;
   moves = [];
@@ -74,7 +74,7 @@ removed m = record {
   registers = record m.registers { last_stream = suc m.registers.last_stream };
 }
 
-abbrev pub resubscribed : Master → Numbered → List ℕ → Option Framework → Doing
+abbrev pub resubscribed : Master → Numbered → List ℕ → Option Framework → MasterEffect
 resubscribed m id role None =
     if nat_le frameworks_limit (length m.registers.frameworks) then refused m LimitExceeded
     else subscribed m m.registers id role None
@@ -86,7 +86,7 @@ is_unassigned m id =
     nat_lt m.run.number id.run || (id.run == m.run.number && nat_lt m.registers.last_framework id.n)
 
 -- with an id
-abbrev pub on_resubscribe : Master → Numbered → List ℕ → Doing
+abbrev pub on_resubscribe : Master → Numbered → List ℕ → MasterEffect
 on_resubscribe m id role =
     if is_unassigned m id then refused m NoSuchFramework
     else (if nat_le last_number m.registers.last_stream then refused m LimitExceeded
@@ -101,7 +101,7 @@ has_tasks_of framework s = list_any (λ b. same b.job.framework framework) s.boo
 abbrev pub sides_with_tasks : Master → Numbered → List Side
 sides_with_tasks m framework = filter (has_tasks_of framework) m.sides
 
-abbrev pub on_teardown : Master → Framework → Doing
+abbrev pub on_teardown : Master → Framework → MasterEffect
 on_teardown m f =
     if list_any (λ s. not (has_numbers 1 s)) (sides_with_tasks m f.id) then refused m LimitExceeded
     else record {
@@ -207,7 +207,7 @@ passes_limits m count good =
 abbrev pub rest_after : Given → Accepting → List Row
 rest_after g x = rest_of (plus_rows [] g.budget) x.used
 
-abbrev pub accepted_as : Master → Framework → List Numbered → ℕ → Option Given → Accepting → Doing
+abbrev pub accepted_as : Master → Framework → List Numbered → ℕ → Option Given → Accepting → MasterEffect
 accepted_as m f ids seconds None x =
     record (saying m x.events) { moves = withdraws (is_named f.id ids) m }
 accepted_as m f ids seconds (Some g) x = record (saying m x.events) {
@@ -220,11 +220,11 @@ accepted_as m f ids seconds (Some g) x = record (saying m x.events) {
 }
 
 abbrev pub accepted_from : Master → List Numbered → List TaskInfo → ℕ → Framework → Option Given
-    → Doing
+    → MasterEffect
 accepted_from m ids tasks seconds f given =
     accepted_as m f ids seconds given (accepts_all m f given tasks)
 
-abbrev pub on_accept : Master → List Numbered → List TaskInfo → ℕ → Framework → Doing
+abbrev pub on_accept : Master → List Numbered → List TaskInfo → ℕ → Framework → MasterEffect
 on_accept m ids tasks seconds f =
     let good = good_side m f.id ids in
     if passes_limits m (length tasks) good then refused m LimitExceeded
@@ -241,7 +241,7 @@ own_offers_on framework id s =
 abbrev pub own_offers : Master → Numbered → Numbered → List MadeOffer
 own_offers m framework id = flat_map (own_offers_on framework id) m.sides
 
-abbrev pub on_decline : Master → List Numbered → ℕ → Framework → Doing
+abbrev pub on_decline : Master → List Numbered → ℕ → Framework → MasterEffect
 on_decline m ids seconds f = record (moving m (withdraws (is_named f.id ids) m)) {
   registers = with_framework m.registers (record f {
     filters =
@@ -252,20 +252,20 @@ on_decline m ids seconds f = record (moving m (withdraws (is_named f.id ids) m))
 
 -- REVIVE, SUPPRESS
 
-abbrev pub on_revive : Master → Framework → Doing
+abbrev pub on_revive : Master → Framework → MasterEffect
 on_revive m f = keeping (with_framework m.registers (record f { suppressed = false; filters = [] }))
 
-abbrev pub on_suppress : Master → Framework → Doing
+abbrev pub on_suppress : Master → Framework → MasterEffect
 on_suppress m f = keeping (with_framework m.registers (record f { suppressed = true }))
 
 -- KILL, ACKNOWLEDGE
 
 -- a command to an agent
-abbrev pub commanding : Master → Option Side → Move → Doing
+abbrev pub commanding : Master → Option Side → Move → MasterEffect
 commanding m s order =
     if may_have_numbers 1 s then moving m (order ∷ []) else refused m LimitExceeded
 
-abbrev pub on_kill : Master → List ℕ → Option (List ℕ) → Framework → Option Placed → Doing
+abbrev pub on_kill : Master → List ℕ → Option (List ℕ) → Framework → Option Placed → MasterEffect
 on_kill m task agent f None = saying m (answers f task Lost agent)
 on_kill m task agent f (Some p) =
     if p.booked.ended then saying m (answers_held f p)
@@ -277,7 +277,7 @@ is_last_received f agent task key k p =
     same p.booked.job.key key && is_task_of f.id task p && bytes_eq p.agent agent
     && p.booked.received == suc k
 
-abbrev pub on_acknowledge : Master → List ℕ → List ℕ → Numbered → ℕ → Framework → Doing
+abbrev pub on_acknowledge : Master → List ℕ → List ℕ → Numbered → ℕ → Framework → MasterEffect
 on_acknowledge m agent task key k f =
     if list_any (is_last_received f agent task key k) (all_booked m)
     then commanding m (side_of m agent) (AtSide agent (SendAck key k))
@@ -301,7 +301,7 @@ reconciles_as m f asked None =
 abbrev pub reconciles : Master → Framework → ReconciledTask → List StreamEvent
 reconciles m f asked = reconciles_as m f asked (held m f.id asked.name)
 
-abbrev pub on_reconcile : Master → List ReconciledTask → Framework → Doing
+abbrev pub on_reconcile : Master → List ReconciledTask → Framework → MasterEffect
 on_reconcile m [] f =
     saying m (flat_map (answers_held f)
     (fold put_placed [] (filter (is_live_of f.id) (all_booked m))))
@@ -314,32 +314,32 @@ abbrev pub is_stream : Numbered → Option Numbered → Bool
 is_stream open_one None = false
 is_stream open_one (Some stream) = same stream open_one
 
-abbrev pub on_its_stream : Master → Option Numbered → Option Numbered → Doing → Doing
+abbrev pub on_its_stream : Master → Option Numbered → Option Numbered → MasterEffect → MasterEffect
 on_its_stream m stream None doing = refused m NotSubscribed
 on_its_stream m stream (Some open_one) doing =
     if is_stream open_one stream then doing else refused m WrongStream
 
-abbrev pub by_known : Master → Option Numbered → Option Framework → (Framework → Doing) → Doing
+abbrev pub by_known : Master → Option Numbered → Option Framework → (Framework → MasterEffect) → MasterEffect
 by_known m stream None doing = refused m NoSuchFramework
 by_known m stream (Some f) doing =
     if is_torn m f.id then refused m NoSuchFramework else on_its_stream m stream f.stream (doing f)
 
 -- a call of a framework that is known in this run and not torn down, on its open stream
-abbrev pub by_framework : Master → Option Numbered → Numbered → (Framework → Doing) → Doing
+abbrev pub by_framework : Master → Option Numbered → Numbered → (Framework → MasterEffect) → MasterEffect
 by_framework m stream framework doing = by_known m stream (framework_of m framework) doing
 
-abbrev pub called : Master → Option Numbered → Call → Doing
-called m stream (Subscribe None role) = on_subscribe m role
-called m stream (Subscribe (Some id) role) = on_resubscribe m id role
-called m stream (Teardown framework) = by_framework m stream framework (on_teardown m)
-called m stream (Accept framework offers tasks seconds) =
+abbrev pub call_effect : Master → Option Numbered → Call → MasterEffect
+call_effect m stream (Subscribe None role) = on_subscribe m role
+call_effect m stream (Subscribe (Some id) role) = on_resubscribe m id role
+call_effect m stream (Teardown framework) = by_framework m stream framework (on_teardown m)
+call_effect m stream (Accept framework offers tasks seconds) =
     by_framework m stream framework (on_accept m offers tasks seconds)
-called m stream (Decline framework offers seconds) =
+call_effect m stream (Decline framework offers seconds) =
     by_framework m stream framework (on_decline m offers seconds)
-called m stream (Revive framework) = by_framework m stream framework (on_revive m)
-called m stream (Suppress framework) = by_framework m stream framework (on_suppress m)
-called m stream (Kill framework task agent) =
+call_effect m stream (Revive framework) = by_framework m stream framework (on_revive m)
+call_effect m stream (Suppress framework) = by_framework m stream framework (on_suppress m)
+call_effect m stream (Kill framework task agent) =
     by_framework m stream framework (λ f. on_kill m task agent f (held m f.id task))
-called m stream (Acknowledge framework agent task uuid) =
+call_effect m stream (Acknowledge framework agent task uuid) =
     by_framework m stream framework (on_acknowledge m agent task uuid.key uuid.k)
-called m stream (Reconcile framework tasks) = by_framework m stream framework (on_reconcile m tasks)
+call_effect m stream (Reconcile framework tasks) = by_framework m stream framework (on_reconcile m tasks)

@@ -4,12 +4,12 @@ use Rattle.std.specs.Prelude.{ℕ, ◌+◌, ◌≤◌, Bool, true, false, if◌t
 use Rattle.std.specs.List.{AllByRecursion as Each}
 use Rattle.names_core.specs.Ids.{Numbered}
 use Rattle.quantity.specs.Rows.{amount}
-use Rattle.mails.specs.declared.mail.MasterMail.{MasterMail}
-use Rattle.mails.specs.declared.mail.AgentMail.{AgentMail}
-use Rattle.mails.specs.declared.record.Durable.{Durable}
-use Rattle.mails.specs.declared.cause.Cause.{Cause}
-use Rattle.mails.specs.declared.cause.Cause.TheVariants.{Start, Mail, Executor, Again}
-use Rattle.mails.specs.declared.refusal.AgentRefusal.{AgentRefusal}
+use Rattle.messages.specs.declared.mail.MasterMail.{MasterMail}
+use Rattle.messages.specs.declared.mail.AgentMail.{AgentMail}
+use Rattle.messages.specs.declared.record.RecordParts.{RecordParts}
+use Rattle.messages.specs.declared.cause.Cause.{Cause}
+use Rattle.messages.specs.declared.cause.Cause.TheVariants.{Start, Mail, Executor, Again}
+use Rattle.messages.specs.declared.refusal.AgentRefusal.{AgentRefusal}
 use Rattle.cluster_model.specs.Agents.{Agent, Draft, live_tasks, receives_mail, next_of, recovered, recovered_from}
 use Rattle.cluster_model.specs.Sides.{Run, Side, SideStep, new_run, new_side, torn_down, received, halted, restarted, side_step}
 
@@ -135,7 +135,7 @@ after_all [] w = w
 after_all (h ∷ hs) w = after_all hs (after w h)
 
 -- the opening: agents that come up over their records, and a master of this run
-abbrev pub open_channel : Durable → Channel
+abbrev pub open_channel : RecordParts → Channel
 open_channel d =
     record {
       side = new_side d.name;
@@ -145,7 +145,7 @@ open_channel d =
       to_master = [];
     }
 
-abbrev pub open_world : ℕ → List Durable → World
+abbrev pub open_world : ℕ → List RecordParts → World
 open_world run records = record { run = new_run run; channels = map open_channel records }
 
 -- Fits: of each name, the agent's current offers and the live tasks of its

@@ -2,11 +2,11 @@
 use Rattle.std.specs.Prelude.{ℕ, List, codes, Option}
 use Rattle.names_core.specs.Updates as updates
 use Rattle.names_core.specs.declared.state.TaskState.{TaskState}
-use Rattle.mails.specs.declared.task.Offer as mails
-use Rattle.scheduler_events.specs.declared.offer.Offer.{Offer}
-pub use Rattle.scheduler_events.specs.declared.event.Event.{Event}
-pub use Rattle.scheduler_events.specs.declared.event.Event.TheVariants.{Subscribed, Offers, Rescind, Update, Failure, Error, Heartbeat}
-pub use Rattle.scheduler_events.specs.declared.stream_event.StreamEvent.{StreamEvent}
+use Rattle.messages.specs.declared.task.Offer as mails
+use Rattle.messages.specs.declared.events.offer.SentOffer.{SentOffer}
+pub use Rattle.messages.specs.declared.events.event.Event.{Event}
+pub use Rattle.messages.specs.declared.events.event.Event.TheVariants.{Subscribed, Offers, Rescind, Update, Failure, Error, Heartbeat}
+pub use Rattle.messages.specs.declared.events.stream_event.StreamEvent.{StreamEvent}
 
 -- an offer on an agent
 pub record MadeOffer : Type 0 where
@@ -14,7 +14,7 @@ pub record MadeOffer : Type 0 where
   pub offer : mails.Offer
 
 -- as an event names it
-abbrev pub offer_of : MadeOffer → Offer
+abbrev pub offer_of : MadeOffer → SentOffer
 offer_of made = record {
   id = made.offer.id;
   framework = made.offer.framework;

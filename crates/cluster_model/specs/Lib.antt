@@ -8,3 +8,6 @@ pub mod Calls
 pub mod Mails
 pub mod Rounds
 pub mod Openings
+pub mod Clusters
+pub mod Steps
+pub mod Fits

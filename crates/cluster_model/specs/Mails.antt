@@ -4,16 +4,16 @@ use Rattle.std.specs.List.{list_any, find}
 use Rattle.names_core.specs.Ids.{Numbered, same}
 use Rattle.names_core.specs.declared.state.TaskState.{TaskState}
 use Rattle.names_core.specs.declared.state.TaskState.TheVariants.{Lost}
-use Rattle.mails.specs.declared.task.Offer.{Offer}
-use Rattle.mails.specs.declared.task.Booked.{Booked}
-use Rattle.mails.specs.declared.mail.AgentMail.{AgentMail}
-use Rattle.mails.specs.declared.mail.AgentMail.TheVariants.{Report, Applied, Update}
-use Rattle.mails.specs.declared.refusal.MasterRefusal.{MasterRefusal}
-use Rattle.mails.specs.declared.refusal.MasterRefusal.TheVariants.{OtherRun, OldSession, Closed, NotOpen}
+use Rattle.messages.specs.declared.task.Offer.{Offer}
+use Rattle.messages.specs.declared.task.Booked.{Booked}
+use Rattle.messages.specs.declared.mail.AgentMail.{AgentMail}
+use Rattle.messages.specs.declared.mail.AgentMail.TheVariants.{Report, Applied, Update}
+use Rattle.messages.specs.declared.refusal.MasterRefusal.{MasterRefusal}
+use Rattle.messages.specs.declared.refusal.MasterRefusal.TheVariants.{OtherRun, OldSession, Closed, NotOpen}
 use Rattle.stream_core.specs.Updates.{most_updates}
 use Rattle.cluster_model.specs.Sides.{Run, Side, SendEnd, SendHello, SendAgain, Lose, opens, received}
 use Rattle.cluster_model.specs.Events.{StreamEvent, Rescind, Failure, Heartbeat, update_event}
-use Rattle.cluster_model.specs.Masters.{Master, Framework, Doing, Move, AtSide, nothing, refused, saying, events_to, events_to_all, on_stream, is_torn, is_of, withdraws, with_framework, without_filters_on}
+use Rattle.cluster_model.specs.Masters.{Master, Framework, MasterEffect, Move, AtSide, nothing, refused, saying, events_to, events_to_all, on_stream, is_torn, is_of, withdraws, with_framework, without_filters_on}
 use Rattle.cluster_model.specs.Calls.{is_stream}
 
 -- an agent's mail
@@ -59,7 +59,7 @@ abbrev pub is_to_end : Master → List Booked → Framework → Bool
 is_to_end m tasks f = is_torn m f.id && list_any (λ t. same t.job.framework f.id) tasks
 
 -- what goes with a Report that opens a session
-abbrev pub session_opens : Master → Side → List Booked → Doing
+abbrev pub session_opens : Master → Side → List Booked → MasterEffect
 session_opens m s tasks = record {
   refusal = None;
   moves =
@@ -77,7 +77,7 @@ news_of m agent key k state b =
     then events_to m b.job.framework
     (update_event b.job.name state (Some agent) (Some (record { key = key; k = k }))) else []
 
-abbrev pub goes_with : Master → Side → AgentMail → Doing
+abbrev pub goes_with : Master → Side → AgentMail → MasterEffect
 goes_with m s (Report session number tasks total) =
     if opens m.run s session number then session_opens m s tasks else nothing m
 goes_with m s (Applied session count) = nothing m
@@ -85,15 +85,15 @@ goes_with m s (Update session key k state ended) =
     saying m (flat_map (news_of m s.name key k state) s.booked)
 
 -- a Hello goes with every refusal but that of another run
-abbrev pub mailed_as : Master → Side → AgentMail → Option MasterRefusal → Doing
+abbrev pub mailed_as : Master → Side → AgentMail → Option MasterRefusal → MasterEffect
 mailed_as m s mail None = goes_with m s mail
 mailed_as m s mail (Some OtherRun) = refused m OtherRun
 mailed_as m s mail (Some refusal) =
     record (refused m refusal) { moves = AtSide s.name SendHello ∷ [] }
 
 -- what goes with a mail of this side's agent, beside what the mail does to the side
-abbrev pub mailed : Master → Side → AgentMail → Doing
-mailed m s mail = mailed_as m s mail (judged m.run s mail)
+abbrev pub mail_effect : Master → Side → AgentMail → MasterEffect
+mail_effect m s mail = mailed_as m s mail (judged m.run s mail)
 
 -- the master's sides, once the side of an agent has received a mail
 abbrev pub receive_at : List ℕ → Run → AgentMail → List Side → List Side
@@ -120,14 +120,14 @@ abbrev pub beaten_on : ℕ → Framework → Option Numbered → Framework
 beaten_on now f None = f
 beaten_on now f (Some stream) = if is_due now f then record f { last_beat = now } else f
 
-abbrev pub beaten : ℕ → Framework → Framework
-beaten now f = beaten_on now f f.stream
+abbrev pub after_heartbeat : ℕ → Framework → Framework
+after_heartbeat now f = beaten_on now f f.stream
 
 -- a Hello where no session is open, else the oldest waiting command again
 abbrev pub ticks : Side → Move
 ticks s = AtSide s.name (if s.is_open then SendAgain else SendHello)
 
-abbrev pub ticked : Master → ℕ → Doing
+abbrev pub ticked : Master → ℕ → MasterEffect
 ticked m now = record {
   refusal = None;
   moves = map ticks m.sides;
@@ -135,12 +135,12 @@ ticked m now = record {
   opens = [];
   closes = [];
   registers =
-      record m.registers { now = now; frameworks = map (beaten now) m.registers.frameworks };
+      record m.registers { now = now; frameworks = map (after_heartbeat now) m.registers.frameworks };
 }
 
 -- LoseAgent
 
-abbrev pub agent_lost : Master → Side → Doing
+abbrev pub agent_lost : Master → Side → MasterEffect
 agent_lost m s =
     if s.is_open
     then record {
@@ -157,7 +157,7 @@ agent_lost m s =
 
 -- HangUp
 
-abbrev pub hung_up_by : Master → Numbered → Option Framework → Doing
+abbrev pub hung_up_by : Master → Numbered → Option Framework → MasterEffect
 hung_up_by m stream None = nothing m
 hung_up_by m stream (Some f) = record {
   refusal = None;
@@ -168,6 +168,6 @@ hung_up_by m stream (Some f) = record {
   registers = with_framework m.registers (record f { stream = None });
 }
 
-abbrev pub hung_up : Master → Numbered → Doing
+abbrev pub hung_up : Master → Numbered → MasterEffect
 hung_up m stream =
     hung_up_by m stream (find (λ f. is_stream stream f.stream) m.registers.frameworks)

@@ -3,12 +3,12 @@ use Rattle.std.specs.Prelude.{ℕ, ◌+◌, Bool, true, false, not, ◌&&◌, �
 use Rattle.std.specs.List.{find}
 use Rattle.names_core.specs.Ids.{Numbered, same, before}
 use Rattle.quantity.specs.declared.rows.Row.{Row}
-use Rattle.mails.specs.declared.task.Offer.{Offer}
-use Rattle.mails.specs.declared.task.Booked.{Booked}
-use Rattle.mails.specs.declared.mail.ToAgent.{ToAgent}
-use Rattle.mails.specs.declared.refusal.MasterRefusal.{MasterRefusal}
-pub use Rattle.mails.specs.declared.framework.Filter.{Filter}
-pub use Rattle.mails.specs.declared.framework.Framework.{Framework}
+use Rattle.messages.specs.declared.task.Offer.{Offer}
+use Rattle.messages.specs.declared.task.Booked.{Booked}
+use Rattle.messages.specs.declared.mail.ToAgent.{ToAgent}
+use Rattle.messages.specs.declared.refusal.MasterRefusal.{MasterRefusal}
+pub use Rattle.messages.specs.declared.framework.Filter.{Filter}
+pub use Rattle.messages.specs.declared.framework.Framework.{Framework}
 use Rattle.cluster_model.specs.Ids.{is_among, last_number}
 use Rattle.cluster_model.specs.Sides.{Run, Side, Sending, SideStep, Withdraw, new_run, side_step, torn_down, halted, restarted}
 use Rattle.cluster_model.specs.Events.{Event, StreamEvent}
@@ -41,7 +41,7 @@ pub data Move : Type 0 where
 
 -- why it refuses, if it does; its moves; its events in the order made;
 -- the streams that it opens and closes; and what it has then beside its sides
-pub record Doing : Type 0 where
+pub record MasterEffect : Type 0 where
   pub refusal : Option MasterRefusal
   pub moves : List Move
   pub events : List StreamEvent
@@ -49,7 +49,7 @@ pub record Doing : Type 0 where
   pub closes : List Numbered
   pub registers : Registers
 
-abbrev pub nothing : Master → Doing
+abbrev pub nothing : Master → MasterEffect
 nothing m =
     record {
       refusal = None;
@@ -60,7 +60,7 @@ nothing m =
       registers = m.registers;
     }
 
-abbrev pub refused : Master → MasterRefusal → Doing
+abbrev pub refused : Master → MasterRefusal → MasterEffect
 refused m refusal =
     record {
       refusal = Some refusal;
@@ -71,7 +71,7 @@ refused m refusal =
       registers = m.registers;
     }
 
-abbrev pub saying : Master → List StreamEvent → Doing
+abbrev pub saying : Master → List StreamEvent → MasterEffect
 saying m events =
     record {
       refusal = None;
@@ -82,7 +82,7 @@ saying m events =
       registers = m.registers;
     }
 
-abbrev pub moving : Master → List Move → Doing
+abbrev pub moving : Master → List Move → MasterEffect
 moving m moves =
     record {
       refusal = None;
@@ -93,7 +93,7 @@ moving m moves =
       registers = m.registers;
     }
 
-abbrev pub keeping : Registers → Doing
+abbrev pub keeping : Registers → MasterEffect
 keeping registers =
     record {
       refusal = None;
@@ -152,7 +152,7 @@ abbrev pub moved : Master → List Move → Moved
 moved m moves = move_all moves (unmoved m)
 
 -- the master after a step
-abbrev pub after_doing : Master → Doing → Master
+abbrev pub after_doing : Master → MasterEffect → Master
 after_doing m d = let x =
     moved m d.moves in record { run = x.run; sides = x.sides; registers = d.registers }
 

@@ -3,22 +3,22 @@ use Rattle.std.specs.Prelude.{◌≢◌, ℕ, ◌≤◌, ◌<◌, List, [], ◌�
 use Rattle.std.specs.List.{AllByRecursion as Each}
 use Rattle.names_core.specs.Ids.{Numbered}
 use Rattle.quantity.specs.Rows.{amount}
-use Rattle.mails.specs.declared.task.Job.{Job}
-use Rattle.mails.specs.declared.record.Durable.{Durable}
+use Rattle.messages.specs.declared.task.Job.{Job}
+use Rattle.messages.specs.declared.record.RecordParts.{RecordParts}
 use Rattle.cluster_model.specs.Agents.{live_tasks}
 
 -- the live tasks of a record have together at most what the agent owns
-abbrev pub RecordFits : Durable → Type 0
+abbrev pub RecordFits : RecordParts → Type 0
 RecordFits d =
     (name : List ℕ) → sum_by (λ t. amount name t.job.resources) (live_tasks d.tasks)
     ≤ amount name d.total
 
 -- the tasks of all records
-abbrev pub recorded_jobs : List Durable → List Job
+abbrev pub recorded_jobs : List RecordParts → List Job
 recorded_jobs records = flat_map (λ d. map (λ t. t.job) d.tasks) records
 
 -- the offers that the tasks of all records came from
-abbrev pub recorded_offers : List Durable → List Numbered
+abbrev pub recorded_offers : List RecordParts → List Numbered
 recorded_offers records = flat_map (λ d. flat_map (λ t. t.offers) d.tasks) records
 
 -- no launch key occurs twice
@@ -31,7 +31,7 @@ abbrev pub NamesOnce : List (List ℕ) → Type 0
 NamesOnce [] = ⊤
 NamesOnce (n ∷ ns) = Each (λ m. m ≢ n) ns × NamesOnce ns
 
-pub record GoodOpening (run : ℕ) (records : List Durable) : Type 0 where
+pub record GoodOpening (run : ℕ) (records : List RecordParts) : Type 0 where
   pub fits : Each RecordFits records
   pub older : Each (λ d. d.run < run) records
   pub keys_older : Each (λ j. j.key.run < run) (recorded_jobs records)

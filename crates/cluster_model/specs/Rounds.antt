@@ -4,11 +4,11 @@ use Rattle.std.specs.List.{list_any, list_all}
 use Rattle.names_core.specs.Ids.{Numbered, same, before}
 use Rattle.quantity.specs.declared.rows.Row.{Row}
 use Rattle.quantity.specs.Rows.{amount, covers, rest_of}
-use Rattle.role_weights.specs.Weights.{RoleWeight, weight_of}
+use Rattle.names_core.specs.Weights.{RoleWeight, weight_of}
 use Rattle.cluster_model.specs.Ids.{following, bytes_before, last_number}
 use Rattle.cluster_model.specs.Sides.{Side, MakeOffer, taken, offer_rows, job_rows, unended}
 use Rattle.cluster_model.specs.Events.{MadeOffer, StreamEvent, Offers, offer_of}
-use Rattle.cluster_model.specs.Masters.{Master, Framework, Filter, Doing, Move, AtSide, moved, on_stream}
+use Rattle.cluster_model.specs.Masters.{Master, Framework, Filter, MasterEffect, Move, AtSide, moved, on_stream}
 
 -- what is held, and its weight: how much of all that agents own is its due, beside the others'
 pub record Share : Type 0 where
@@ -181,7 +181,7 @@ abbrev pub making : List RoleWeight → Master → List Move
 making weights m = map (λ g. AtSide g.agent (MakeOffer g.offer)) (round weights m)
 
 -- the events have the offers that are then current and weren't before
-abbrev pub allocated : List RoleWeight → Master → Doing
+abbrev pub allocated : List RoleWeight → Master → MasterEffect
 allocated weights m = record {
   refusal = None;
   moves = making weights m;

@@ -1,11 +1,11 @@
 -- A master that begins a run greets every agent, and stays as it is.
 use Rattle.std.proofs.Common.{◌≡◌, ℕ, List, [], ◌∷◌, map, refl, ap, ◌∙◌, bytes_eq}
 use Rattle.std.proofs.lemmas.Bool.{cond_both}
-use Rattle.cluster_histories.specs.Clusters.{Cluster, master_of}
-use Rattle.cluster_steps.specs.declared.verdict.Sent.TheVariants.{ToAgent as MailToAgent}
-use Rattle.cluster_model.specs.Masters.{AtSide, Doing, Master, Moved, after_doing, at_side, at_this_side, move, move_all, moved, past_side, unmoved}
+use Rattle.cluster_model.specs.Clusters.{Cluster, master_of}
+use Rattle.messages.specs.declared.steps.verdict.Sent.TheVariants.{ToAgent as MailToAgent}
+use Rattle.cluster_model.specs.Masters.{AtSide, MasterEffect, Master, Moved, after_doing, at_side, at_this_side, move, move_all, moved, past_side, unmoved}
 use Rattle.cluster_model.specs.Sides.{Run, SendHello, Side, side_step}
-use Rattle.cluster_histories.specs.Steps.{Effect, done, effect_of, greets_all}
+use Rattle.cluster_model.specs.Steps.{Effect, done, effect_of, greets_all}
 use Rattle.cluster_laws.specs.Parts.{greeting}
 
 abbrev SameMoved : Run → List Side → Moved → Type 0
@@ -32,8 +32,8 @@ greeting_stays m =
 
 -- what the laws give
 pub record GreetLaws : Type 0 where
-  pub master : (c : Cluster) (d : Doing) → master_of (done c (effect_of [] d)).after ≡ after_doing (master_of c) d
-  pub mails : (c : Cluster) (d : Doing) → (done c (effect_of [] d)).outputs.sent ≡ map MailToAgent (moved (master_of c) d.moves).sent
+  pub master : (c : Cluster) (d : MasterEffect) → master_of (done c (effect_of [] d)).after ≡ after_doing (master_of c) d
+  pub mails : (c : Cluster) (d : MasterEffect) → (done c (effect_of [] d)).outputs.sent ≡ map MailToAgent (moved (master_of c) d.moves).sent
   pub greets : (c : Cluster) → greets_all c ≡ effect_of [] (greeting (master_of c))
 
 pub greeted_master : GreetLaws → (c : Cluster) → master_of (done c (greets_all c)).after ≡ master_of c

@@ -1,50 +1,50 @@
 -- What a step of the master makes.
 use Rattle.std.proofs.Common.{◌≡◌, ℕ, Bool, true, false, List, [], ◌∷◌, ◌++◌, length, map, drop, Option, Some, None, Result, Ok, Err, inl, inr, refl, sym, ap, ◌∙◌, subst}
 use Rattle.std.specs.Prelude.{if◌then◌else◌, IfOk}
-use Rattle.mails.specs.declared.record.Durable.{Durable}
-use Rattle.mails.specs.declared.mail.ToAgent.{ToAgent}
-use Rattle.mails.specs.declared.refusal.MasterRefusal.{MasterRefusal}
+use Rattle.messages.specs.declared.record.RecordParts.{RecordParts}
+use Rattle.messages.specs.declared.mail.ToAgent.{ToAgent}
+use Rattle.messages.specs.declared.refusal.MasterRefusal.{MasterRefusal}
 use Rattle.names_core.specs.Ids.{Numbered}
 use Rattle.cluster_model.specs.Channels.{Channel, with_side}
-use Rattle.cluster_histories.specs.Clusters.{Cluster, Stream, master_of}
-use Rattle.cluster_steps.specs.declared.verdict.Sent.TheVariants.{ToAgent as MailToAgent}
-use Rattle.cluster_steps.specs.declared.verdict.Sent.{Sent}
-use Rattle.cluster_steps.specs.declared.step.Step.{Step}
-use Rattle.cluster_steps.specs.declared.fault.ClusterFault.{ClusterFault}
-use Rattle.cluster_model.specs.Masters.{Doing, Master, after_doing, moved, refused}
+use Rattle.cluster_model.specs.Clusters.{Cluster, Stream, master_of}
+use Rattle.messages.specs.declared.steps.verdict.Sent.TheVariants.{ToAgent as MailToAgent}
+use Rattle.messages.specs.declared.steps.verdict.Sent.{Sent}
+use Rattle.messages.specs.declared.steps.step.Step.{Step}
+use Rattle.messages.specs.declared.steps.fault.ClusterFault.{ClusterFault}
+use Rattle.cluster_model.specs.Masters.{MasterEffect, Master, after_doing, moved, refused}
 use Rattle.cluster_model.specs.Sides.{halted}
-use Rattle.cluster_histories.specs.Steps.{Setup, Done, History, Marked, answer, extend_all, extended, history, opening, step_marked, done, effect_of, fallen_answer, instead, master_does, master_falls, sent_between, streams_after, with_tick}
-use Rattle.cluster_histories.specs.Steps as steps
+use Rattle.cluster_model.specs.Steps.{Setup, Done, History, Marked, answer, extend_all, extended, history, opening, step_marked, done, effect_of, fallen_answer, instead, master_does, master_falls, sent_between, streams_after, with_tick}
+use Rattle.cluster_model.specs.Steps as steps
 use Rattle.cluster_laws.specs.declared.item.Item.{Item}
 use Rattle.cluster_laws.specs.Items.{StandIn, call_of, items_sent}
 use Rattle.cluster_laws.specs.Parts.{parts_of}
 use Rattle.cluster_laws.specs.Runs.{AreRising, ids_of}
-use Rattle.cluster_entries.specs.declared.entry.Outputs.{Outputs}
-use Rattle.cluster_steps.specs.declared.verdict.Sent as code
-use Rattle.cluster_steps.specs.declared.verdict.Verdict.TheVariants as verdicts
+use Rattle.messages.specs.declared.entries.entry.Outputs.{Outputs}
+use Rattle.messages.specs.declared.steps.verdict.Sent as code
+use Rattle.messages.specs.declared.steps.verdict.Verdict.TheVariants as verdicts
 use Rattle.master_core.specs.Steps.{Answers, outs_of}
 use Rattle.master_state.specs.declared.fault.MasterFault.{MasterFault}
 use Rattle.master_state.specs.declared.fault.MasterFault.TheVariants as fault
 use Rattle.master_state.specs.declared.state.Outs.{Outs}
-use Rattle.scheduler_events.specs.declared.stream_event.StreamEvent.{StreamEvent}
-use Rattle.event_streams.specs.Kept.{AreWithin, kept_streams}
-use Rattle.event_streams.specs.declared.kept.KeptStream.{KeptStream}
-use Rattle.event_streams.specs.Streams.{received, kept_ids}
+use Rattle.messages.specs.declared.events.stream_event.StreamEvent.{StreamEvent}
+use Rattle.cluster_channels.specs.Kept.{AreWithin, kept_streams}
+use Rattle.cluster_channels.specs.declared.streams.kept.KeptStream.{KeptStream}
+use Rattle.cluster_channels.specs.Streams.{received, kept_ids}
 use Rattle.cluster_agents.specs.Outcomes.{ends_with}
 use Rattle.cluster_parts.specs.Masters.{Does, Falls, MasterMakes, Settles, item_to, kept_master, sent_to, made_of}
-use Rattle.cluster_agents.specs.declared.outcomes.Made.{Made}
+use Rattle.cluster_agents.specs.declared.outcomes.StepOutcome.{StepOutcome}
 use Rattle.cluster_agents.specs.Moves.{Reached, sending}
 use Rattle.cluster_agents.proofs.Making.{ItemsStand, append_nothing, items_by, marked, quiet_streams}
 
 pub record MasterLaws : Type 0 where
   pub stand : ItemsStand
-  pub master : (c : Cluster) (d : Doing) → master_of (done c (effect_of [] d)).after ≡ after_doing (master_of c) d
-  pub mails : (c : Cluster) (d : Doing) → (done c (effect_of [] d)).outputs.sent ≡ map MailToAgent (moved (master_of c) d.moves).sent
-  pub parts : (c : Cluster) (d : Doing) → parts_of (done c (effect_of [] d)).after.world.channels ≡ parts_of c.world.channels
+  pub master : (c : Cluster) (d : MasterEffect) → master_of (done c (effect_of [] d)).after ≡ after_doing (master_of c) d
+  pub mails : (c : Cluster) (d : MasterEffect) → (done c (effect_of [] d)).outputs.sent ≡ map MailToAgent (moved (master_of c) d.moves).sent
+  pub parts : (c : Cluster) (d : MasterEffect) → parts_of (done c (effect_of [] d)).after.world.channels ≡ parts_of c.world.channels
   pub parts_fallen : (c : Cluster) → parts_of (master_falls c).after.world.channels ≡ parts_of c.world.channels
   pub down : (c : Cluster) → (master_falls c).after.world.run.serves ≡ false
   pub receives : (streams : List Stream) (opens : List Numbered) (sent_outs : List StreamEvent) → AreWithin streams → kept_streams (streams_after streams opens sent_outs) ≡ received opens sent_outs (kept_streams streams)
-  pub rising : (setup : Setup) (records : List Durable) (steps : List Marked) → AreRising (ids_of (history setup records steps).state.streams)
+  pub rising : (setup : Setup) (records : List RecordParts) (steps : List Marked) → AreRising (ids_of (history setup records steps).state.streams)
   pub ids : (streams : List Stream) (opens : List Numbered) (sent_outs : List StreamEvent) → ids_of (streams_after streams opens sent_outs) ≡ kept_ids (kept_streams streams) ++ opens
   pub within : (streams : List Stream) (opens : List Numbered) (sent_outs : List StreamEvent) → AreWithin streams → AreWithin (streams_after streams opens sent_outs)
 
@@ -76,7 +76,7 @@ not_serving m e = by m.run.serves e
 abbrev told_with : List StreamEvent → List Numbered → List code.Sent → Outputs
 told_with events closed sent = record { events = events; closed = closed; sent = sent; taken = None }
 
-pub doing_told : MasterLaws → (c : Cluster) (s : Step) (moment : ℕ) (d : Doing) (items : List Item) → Reached c → AreWithin c.streams → StandIn c items → c.world.run.serves ≡ true → Does c s moment d → d.refusal ≡ None →
+pub doing_told : MasterLaws → (c : Cluster) (s : Step) (moment : ℕ) (d : MasterEffect) (items : List Item) → Reached c → AreWithin c.streams → StandIn c items → c.world.run.serves ≡ true → Does c s moment d → d.refusal ≡ None →
     MasterMakes c s moment (made_of (outs_of (master_of c) d)) (Some (Some (after_doing (master_of c) d))) (items ++ map item_to (outs_of (master_of c) d).mails) (received d.opens d.events (kept_streams c.streams))
 doing_told more c s moment d items r within stand serves how fine = record {
   done = D;
@@ -116,7 +116,7 @@ doing_told more c s moment d items r within stand serves how fine = record {
 
 -- a refusal
 
-pub doing_refused : MasterLaws → (c : Cluster) (s : Step) (moment : ℕ) (d : Doing) (refusal : MasterRefusal) (items : List Item) → Reached c → AreWithin c.streams → StandIn c items → c.world.run.serves ≡ true → Does c s moment d → d.refusal ≡ Some refusal →
+pub doing_refused : MasterLaws → (c : Cluster) (s : Step) (moment : ℕ) (d : MasterEffect) (refusal : MasterRefusal) (items : List Item) → Reached c → AreWithin c.streams → StandIn c items → c.world.run.serves ≡ true → Does c s moment d → d.refusal ≡ Some refusal →
     MasterMakes c s moment (ends_with (verdicts.MasterRefused refusal)) (Some (Some (master_of c))) items (kept_streams c.streams)
 doing_refused more c s moment d refusal items r within stand serves how is = record {
   done = D;
@@ -152,7 +152,7 @@ halt_sends : (cs : List Channel) → sent_between cs (map (with_side halted) cs)
 halt_sends [] = refl
 halt_sends (x ∷ cs) = rw (nothing_behind x.to_agent, nothing_behind x.to_master) (halt_sends cs)
 
-pub doing_falls : MasterLaws → (c : Cluster) (s : Step) (moment : ℕ) (d : Doing) (items : List Item) → Reached c → AreWithin c.streams → StandIn c items → Does c s moment d →
+pub doing_falls : MasterLaws → (c : Cluster) (s : Step) (moment : ℕ) (d : MasterEffect) (items : List Item) → Reached c → AreWithin c.streams → StandIn c items → Does c s moment d →
     MasterMakes c s moment (ends_with verdicts.OutOfMemory) None items (kept_streams c.streams)
 doing_falls more c s moment d items r within stand how = record {
   done = D;
@@ -186,18 +186,18 @@ doing_falls more c s moment d items r within stand how = record {
 
 -- ---- what becomes of the master's answer
 
-same_but : (c : Cluster) (s : Step) (moment : ℕ) (made made2 : Made) (n n2 : Option (Option Master)) (js js2 : List Item) (ts ts2 : List KeptStream) → made ≡ made2 → n ≡ n2 → js ≡ js2 → ts ≡ ts2 → MasterMakes c s moment made2 n2 js2 ts2 → MasterMakes c s moment made n js ts
+same_but : (c : Cluster) (s : Step) (moment : ℕ) (made made2 : StepOutcome) (n n2 : Option (Option Master)) (js js2 : List Item) (ts ts2 : List KeptStream) → made ≡ made2 → n ≡ n2 → js ≡ js2 → ts ≡ ts2 → MasterMakes c s moment made2 n2 js2 ts2 → MasterMakes c s moment made n js ts
 same_but c s moment made made2 n n2 js js2 ts ts2 e f g h x =
-    subst (λ (y : Made). MasterMakes c s moment y n js ts) (sym e)
+    subst (λ (y : StepOutcome). MasterMakes c s moment y n js ts) (sym e)
     (subst (λ (y : Option (Option Master)). MasterMakes c s moment made2 y js ts) (sym f)
     (subst (λ (y : List Item). MasterMakes c s moment made2 n2 y ts) (sym g)
     (subst (λ (y : List KeptStream). MasterMakes c s moment made2 n2 js2 y) (sym h) x)))
 
-falls_then : MasterLaws → (c : Cluster) (s : Step) (moment : ℕ) (d : Doing) (made : Made) (n : Option (Option Master)) (items js : List Item) (ts : List KeptStream) → Reached c → AreWithin c.streams → StandIn c items → Does c s moment d → Falls made n items js (kept_streams c.streams) ts → MasterMakes c s moment made n js ts
+falls_then : MasterLaws → (c : Cluster) (s : Step) (moment : ℕ) (d : MasterEffect) (made : StepOutcome) (n : Option (Option Master)) (items js : List Item) (ts : List KeptStream) → Reached c → AreWithin c.streams → StandIn c items → Does c s moment d → Falls made n items js (kept_streams c.streams) ts → MasterMakes c s moment made n js ts
 falls_then more c s moment d made n items js ts r within stand how f =
     same_but c s moment made (ends_with verdicts.OutOfMemory) n None js items ts (kept_streams c.streams) f.is f.down f.same_items f.same_streams (doing_falls more c s moment d items r within stand how)
 
-pub answer_made : MasterLaws → (c : Cluster) (s : Step) (moment : ℕ) (doing : Master → Doing) (answered : Result Outs MasterFault) (after : Option Master) (made : Made) (n : Option (Option Master)) (items js : List Item) (ts : List KeptStream) →
+pub answer_made : MasterLaws → (c : Cluster) (s : Step) (moment : ℕ) (doing : Master → MasterEffect) (answered : Result Outs MasterFault) (after : Option Master) (made : StepOutcome) (n : Option (Option Master)) (items js : List Item) (ts : List KeptStream) →
     Reached c → AreWithin c.streams → StandIn c items → c.world.run.serves ≡ true → Does c s moment (doing (master_of c)) → Answers answered (Some (master_of c)) after doing → Settles answered made (Some after) n items js (kept_streams c.streams) ts → MasterMakes c s moment made n js ts
 answer_made more c s moment doing (Ok outs) after made n items js ts r within stand serves how (fine, is, next) (inl t) =
     same_but c s moment made (made_of (outs_of (master_of c) (doing (master_of c)))) n (Some (Some (after_doing (master_of c) (doing (master_of c))))) js (items ++ map item_to (outs_of (master_of c) (doing (master_of c))).mails) ts (received (doing (master_of c)).opens (doing (master_of c)).events (kept_streams c.streams))
@@ -227,7 +227,7 @@ state_then c r m d e =
     let steps_so : step_marked (history r.setup r.records r.steps).state m ≡ Ok d = subst (λ (x : Cluster). step_marked x m ≡ Ok d) r.is (marked c m d r.room e) in
     ap (λ (x : History). x.state) (extended_more (opening r.setup r.records) r.steps m) ∙ ap (λ (x : Result Done ClusterFault). (extended (history r.setup r.records r.steps) m.step x).state) steps_so
 
-pub streams_then_rise : MasterLaws → (c : Cluster) (s : Step) (moment : ℕ) (doing : Master → Doing) (answered : Result Outs MasterFault) (after : Option Master) → Reached c → Does c s moment (doing (master_of c)) → Answers answered (Some (master_of c)) after doing →
+pub streams_then_rise : MasterLaws → (c : Cluster) (s : Step) (moment : ℕ) (doing : Master → MasterEffect) (answered : Result Outs MasterFault) (after : Option Master) → Reached c → Does c s moment (doing (master_of c)) → Answers answered (Some (master_of c)) after doing →
     IfOk answered (λ outs. AreRising (kept_ids (kept_streams c.streams) ++ outs.opened))
 streams_then_rise more c s moment doing (Err e) after r how h = tt
 streams_then_rise more c s moment doing (Ok outs) after r how (fine, is, next) =

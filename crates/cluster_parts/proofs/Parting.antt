@@ -4,17 +4,17 @@ use Rattle.std.specs.Prelude.{IfSome}
 use Rattle.std.specs.List.{AllByRecursion as Each}
 use Rattle.std.proofs.lemmas.Option.{slice_get-get_or}
 use Rattle.agent_core.specs.Drafts.{is_in_order}
-use Rattle.mails.specs.declared.cause.Cause.TheVariants.{Mail}
-use Rattle.mails.specs.declared.mail.ToAgent.{ToAgent}
-use Rattle.mails.specs.declared.record.Durable.{Durable}
+use Rattle.messages.specs.declared.cause.Cause.TheVariants.{Mail}
+use Rattle.messages.specs.declared.mail.ToAgent.{ToAgent}
+use Rattle.messages.specs.declared.record.RecordParts.{RecordParts}
 use Rattle.cluster_model.specs.Agents.{Draft}
 use Rattle.cluster_model.specs.Channels.{Channel}
-use Rattle.cluster_histories.specs.Clusters.{Cluster}
-use Rattle.cluster_steps.specs.declared.step.Step.{Step}
-use Rattle.cluster_steps.specs.declared.step.Step.TheVariants.{StopMaster}
+use Rattle.cluster_model.specs.Clusters.{Cluster}
+use Rattle.messages.specs.declared.steps.step.Step.{Step}
+use Rattle.messages.specs.declared.steps.step.Step.TheVariants.{StopMaster}
 use Rattle.cluster_model.specs.Masters.{Master}
 use Rattle.cluster_model.specs.Openings.{GoodOpening}
-use Rattle.cluster_histories.specs.Steps.{Setup, Marked, history}
+use Rattle.cluster_model.specs.Steps.{Setup, Marked, history}
 use Rattle.cluster_laws.specs.Items.{StandIn}
 use Rattle.cluster_laws.specs.Parts.{Part, parts_of}
 use Rattle.cluster_laws.specs.declared.item.Item.{Item}
@@ -25,16 +25,16 @@ use Rattle.cluster_agents.specs.Moves.{ComeInOrder, Makes, StandsAt, kept_agents
 use Rattle.cluster_parts.specs.Parts.{AreParts, PartsOf, Takes, record_of}
 use Rattle.cluster_parts.specs.Posts.{Grows}
 use Rattle.cluster_parts.specs.Restarting.{Restarts}
-use Rattle.cluster_agents.specs.declared.outcomes.Made.{Made}
-use Rattle.cluster_parts.specs.declared.parts.Parts.{Parts}
+use Rattle.cluster_agents.specs.declared.outcomes.StepOutcome.{StepOutcome}
+use Rattle.cluster_parts.specs.declared.parts.ClusterState.{ClusterState}
 use Rattle.cluster_agents.proofs.Preparing.{at_kept}
-use Rattle.event_streams.specs.Kept.{AreWithin, kept_streams}
+use Rattle.cluster_channels.specs.Kept.{AreWithin, kept_streams}
 
 -- the agents stay where their parts do and the same are down
 agents_stay : (c d : Cluster) → parts_of d.world.channels ≡ parts_of c.world.channels → d.fallen ≡ c.fallen → kept_agents d ≡ kept_agents c
 agents_stay c d parts fallen = ap (λ (f : List (List ℕ)). map (kept_part f) (parts_of d.world.channels)) fallen ∙ ap (λ (ps : List Part). map (kept_part c.fallen) ps) parts
 
-pub master_takes : {T : Type 0} → (c : Cluster) (s : Step) (moment : ℕ) (made : Made) (p q : Parts T) → PartsOf c p → MasterMakes c s moment made q.served.master q.served.items q.served.streams → q.agents.items ≡ p.agents.items → q.run ≡ p.run → q.last_tick ≡ moment → None ≡ record_of s made.verdict q.agents.items → Takes c s made q
+pub master_takes : {T : Type 0} → (c : Cluster) (s : Step) (moment : ℕ) (made : StepOutcome) (p q : ClusterState T) → PartsOf c p → MasterMakes c s moment made q.served.master q.served.items q.served.streams → q.agents.items ≡ p.agents.items → q.run ≡ p.run → q.last_tick ≡ moment → None ≡ record_of s made.verdict q.agents.items → Takes c s made q
 master_takes c s moment made p q of m agents run tick none = record {
   done = m.done;
   answers = m.answers;
@@ -49,7 +49,7 @@ master_takes c s moment made p q of m agents run tick none = record {
   };
 }
 
-pub restart_takes : {T : Type 0} → (c : Cluster) (made : Made) (p q : Parts T) → PartsOf c p → Restarts c made q.run q.served.master q.served.items q.served.streams → q.agents.items ≡ p.agents.items → q.last_tick ≡ p.last_tick → Takes c StopMaster made q
+pub restart_takes : {T : Type 0} → (c : Cluster) (made : StepOutcome) (p q : ClusterState T) → PartsOf c p → Restarts c made q.run q.served.master q.served.items q.served.streams → q.agents.items ≡ p.agents.items → q.last_tick ≡ p.last_tick → Takes c StopMaster made q
 restart_takes c made p q of m agents tick = record {
   done = m.done;
   answers = m.answers;
@@ -64,7 +64,7 @@ restart_takes c made p q of m agents tick = record {
   };
 }
 
-pub agent_takes : {T : Type 0} → (c : Cluster) (s : Step) (made : Made) (p q : Parts T) → PartsOf c p → Makes c s made.verdict made.outputs q.agents.items q.served.items → made.durable ≡ record_of s made.verdict q.agents.items →
+pub agent_takes : {T : Type 0} → (c : Cluster) (s : Step) (made : StepOutcome) (p q : ClusterState T) → PartsOf c p → Makes c s made.verdict made.outputs q.agents.items q.served.items → made.durable ≡ record_of s made.verdict q.agents.items →
     q.served.master ≡ p.served.master → q.served.streams ≡ p.served.streams → q.run ≡ p.run → q.last_tick ≡ p.last_tick → Takes c s made q
 agent_takes c s made p q of m drafts master streams run tick = record {
   done = m.done;
@@ -96,13 +96,13 @@ pub standing_at : (c : Cluster) (as_ : List KeptAgent) (name : List ℕ) (place 
 standing_at c as_ name place a same found within at = at_kept c as_ name place a same found (slice_there as_ place a within at)
 
 -- the agent at a place stands there
-pub at_place : {T : Type 0} → (p : Parts T) (as_ : List KeptAgent) (name : List ℕ) (place : ℕ) (a : KeptAgent) → as_ ≡ p.agents.items → place_in name as_ ≡ Some place → place < length as_ → a ≡ get_or p.agents.items place a →
+pub at_place : {T : Type 0} → (p : ClusterState T) (as_ : List KeptAgent) (name : List ℕ) (place : ℕ) (a : KeptAgent) → as_ ≡ p.agents.items → place_in name as_ ≡ Some place → place < length as_ → a ≡ get_or p.agents.items place a →
     (place_in name p.agents.items ≡ Some place) × (slice_get p.agents.items place ≡ Some a)
 at_place p as_ name place a same found within at =
     (subst (λ (xs : List KeptAgent). place_in name xs ≡ Some place) same found, subst (λ (b : KeptAgent). slice_get p.agents.items place ≡ Some b) (sym at) (slice_get-get_or p.agents.items place a (subst (λ (xs : List KeptAgent). place < length xs) same within)))
 
 -- and in the state
-pub here : {T : Type 0} → (c : Cluster) (p : Parts T) (as_ : List KeptAgent) (name : List ℕ) (place : ℕ) (a : KeptAgent) → PartsOf c p → as_ ≡ p.agents.items → place_in name as_ ≡ Some place → place < length as_ → a ≡ get_or p.agents.items place a →
+pub here : {T : Type 0} → (c : Cluster) (p : ClusterState T) (as_ : List KeptAgent) (name : List ℕ) (place : ℕ) (a : KeptAgent) → PartsOf c p → as_ ≡ p.agents.items → place_in name as_ ≡ Some place → place < length as_ → a ≡ get_or p.agents.items place a →
     (place_in name (kept_agents c) ≡ Some place) × (slice_get (kept_agents c) place ≡ Some a)
 here c p as_ name place a of same found within at =
     let there = at_place p as_ name place a same found within at in
@@ -116,11 +116,11 @@ is_up as_ bs place a same at up = subst (λ (o : Option KeptAgent). IfSome o (λ
 pub is_free : (as_ bs : List KeptAgent) (place : ℕ) (a : KeptAgent) → as_ ≡ bs → slice_get bs place ≡ Some a → IfSome (slice_get as_ place) (λ b. (b.is_down ≡ false) × (b.part.draft ≡ None)) → (a.is_down ≡ false) × (a.part.draft ≡ None)
 is_free as_ bs place a same at free = subst (λ (o : Option KeptAgent). IfSome o (λ b. (b.is_down ≡ false) × (b.part.draft ≡ None))) (ap (λ (xs : List KeptAgent). slice_get xs place) same ∙ at) free
 
-pub one_takes : {T : Type 0} → (c : Cluster) (s : Step) (made how : Made) (p q : Parts T) (place : ℕ) (new : KeptAgent) → PartsOf c p → made ≡ how → Makes c s how.verdict how.outputs (slice_set (kept_agents c) place new) q.served.items → how.durable ≡ record_of s how.verdict q.agents.items →
+pub one_takes : {T : Type 0} → (c : Cluster) (s : Step) (made how : StepOutcome) (p q : ClusterState T) (place : ℕ) (new : KeptAgent) → PartsOf c p → made ≡ how → Makes c s how.verdict how.outputs (slice_set (kept_agents c) place new) q.served.items → how.durable ≡ record_of s how.verdict q.agents.items →
     q.agents.items ≡ slice_set p.agents.items place new → q.served.master ≡ p.served.master → q.served.streams ≡ p.served.streams → q.run ≡ p.run → q.last_tick ≡ p.last_tick → Takes c s made q
 one_takes c s made how p q place new of is m drafts agents master streams run tick =
     let set : q.agents.items ≡ slice_set (kept_agents c) place new = agents ∙ ap (λ (xs : List KeptAgent). slice_set xs place new) of.stands.as_agents in
-    subst (λ (x : Made). Takes c s x q) (sym is)
+    subst (λ (x : StepOutcome). Takes c s x q) (sym is)
     (agent_takes c s how p q of (subst (λ (xs : List KeptAgent). Makes c s how.verdict how.outputs xs q.served.items) (sym set) m) drafts master streams run tick)
 
 pub some_open : (o : Option Draft) → is_some o ≡ true → (d : Draft) × (o ≡ Some d)
@@ -142,10 +142,10 @@ each_kept to fallen [] h = tt
 each_kept to fallen (x ∷ cs) h = (h.0, each_kept to fallen cs h.1)
 
 abbrev pub OrderLaw : Type 0
-OrderLaw = (setup : Setup) (records : List Durable) (steps : List Marked) (sent : List Item) (n : ℕ) (to : ToAgent) → GoodOpening setup.run records →
+OrderLaw = (setup : Setup) (records : List RecordParts) (steps : List Marked) (sent : List Item) (n : ℕ) (to : ToAgent) → GoodOpening setup.run records →
     StandIn (history setup records steps).state sent → slice_get sent n ≡ Some (items.ToAgent to) → Each (λ x. is_in_order x.agent (Mail to) ≡ true) (history setup records steps).state.world.channels
 
-pub come_in_order : {T : Type 0} → OrderLaw → (p : Parts T) → AreParts p → ComeInOrder p.agents.items p.served.items
+pub come_in_order : {T : Type 0} → OrderLaw → (p : ClusterState T) → AreParts p → ComeInOrder p.agents.items p.served.items
 come_in_order law p (c, of) = λ n to e.
     let r = of.reached in
     let each : Each (λ x. is_in_order x.agent (Mail to) ≡ true) c.world.channels =

@@ -1,21 +1,21 @@
 -- What stands behind a stop of the master.
 use Rattle.std.proofs.Common.{◌≡◌, ℕ, ◌+◌, Bool, true, false, nat_lt, List, [], ◌∷◌, ◌++◌, map, Option, Some, None, Result, Ok, Err, inl, inr, refl, sym, ap, ◌∙◌, subst}
 use Rattle.std.specs.Prelude.{if◌then◌else◌, IfOk}
-use Rattle.mails.specs.declared.mail.ToAgent.{ToAgent}
-use Rattle.mails.specs.declared.record.Durable.{Durable}
+use Rattle.messages.specs.declared.mail.ToAgent.{ToAgent}
+use Rattle.messages.specs.declared.record.RecordParts.{RecordParts}
 use Rattle.names_core.specs.Ids.{Numbered}
-use Rattle.agent_sides.specs.declared.config.ConfiguredAgent.{ConfiguredAgent}
+use Rattle.master_agents.specs.declared.config.ConfiguredAgent.{ConfiguredAgent}
 use Rattle.cluster_model.specs.Channels.{Channel, Halt, Restart, after, open_channel, with_side}
-use Rattle.cluster_histories.specs.Clusters.{Cluster, Stream, master_of, sides_of}
-use Rattle.cluster_steps.specs.declared.verdict.Sent.TheVariants.{ToAgent as MailToAgent}
-use Rattle.cluster_steps.specs.declared.verdict.Sent.{Sent}
-use Rattle.cluster_steps.specs.declared.step.Step.TheVariants.{StopMaster}
-use Rattle.cluster_steps.specs.declared.verdict.Verdict.TheVariants.{Ok as Fine}
+use Rattle.cluster_model.specs.Clusters.{Cluster, Stream, master_of, sides_of}
+use Rattle.messages.specs.declared.steps.verdict.Sent.TheVariants.{ToAgent as MailToAgent}
+use Rattle.messages.specs.declared.steps.verdict.Sent.{Sent}
+use Rattle.messages.specs.declared.steps.step.Step.TheVariants.{StopMaster}
+use Rattle.messages.specs.declared.steps.verdict.Verdict.TheVariants.{Ok as Fine}
 use Rattle.cluster_model.specs.Events.{StreamEvent}
 use Rattle.cluster_model.specs.Ids.{last_run}
 use Rattle.cluster_model.specs.Masters.{Master, moved, new_registers}
 use Rattle.cluster_model.specs.Sides.{Side, halted, new_run, new_side, restarted}
-use Rattle.cluster_histories.specs.Steps.{Setup, unweighted, Done, Effect, Marked, answer, done, fallen_answer, greets_all, happening, hello_to, history, master_stops, new_master_falls, opened_over, sent_between, streams_after}
+use Rattle.cluster_model.specs.Steps.{Setup, unweighted, Done, Effect, Marked, answer, done, fallen_answer, greets_all, happening, hello_to, history, master_stops, new_master_falls, opened_over, sent_between, streams_after}
 use Rattle.cluster_laws.proofs.Grown.{Grown, world_grown}
 use Rattle.cluster_laws.proofs.Histories.{reached}
 use Rattle.cluster_laws.proofs.Lists.{append_same, cons_same}
@@ -23,21 +23,21 @@ use Rattle.cluster_laws.specs.declared.item.Item.{Item}
 use Rattle.cluster_laws.specs.Items.{StandIn, items_sent}
 use Rattle.cluster_laws.specs.Parts.{AreAgentsOf, anew, greeting, next_master, parts_of}
 use Rattle.cluster_laws.specs.Runs.{AreRising, ids_of}
-use Rattle.cluster_steps.specs.declared.verdict.Sent as code
-use Rattle.cluster_steps.specs.declared.verdict.Verdict.TheVariants as verdicts
+use Rattle.messages.specs.declared.steps.verdict.Sent as code
+use Rattle.messages.specs.declared.steps.verdict.Verdict.TheVariants as verdicts
 use Rattle.master_core.specs.Steps.{outs_of}
 use Rattle.master_state.specs.declared.fault.MasterFault.{MasterFault}
 use Rattle.master_state.specs.declared.fault.MasterFault.TheVariants as fault
 use Rattle.master_state.specs.declared.state.Outs.{Outs}
-use Rattle.event_streams.specs.Kept.{AreWithin, kept_streams}
-use Rattle.event_streams.specs.declared.kept.KeptStream.{KeptStream}
-use Rattle.event_streams.specs.Streams.{received, kept_ids}
+use Rattle.cluster_channels.specs.Kept.{AreWithin, kept_streams}
+use Rattle.cluster_channels.specs.declared.streams.kept.KeptStream.{KeptStream}
+use Rattle.cluster_channels.specs.Streams.{received, kept_ids}
 use Rattle.cluster_agents.specs.Outcomes.{ends_with}
 use Rattle.cluster_parts.specs.Masters.{Falls, Settles, StandsFor, item_to, kept_master, made_of}
 use Rattle.cluster_agents.specs.Moves.{Reached, sending}
 use Rattle.cluster_parts.specs.Opening.{Starts, new_master}
 use Rattle.cluster_parts.specs.Restarting.{Restarts, run_behind}
-use Rattle.cluster_agents.specs.declared.outcomes.Made.{Made}
+use Rattle.cluster_agents.specs.declared.outcomes.StepOutcome.{StepOutcome}
 use Rattle.cluster_agents.proofs.Committing.{if_it_is_down, if_it_is_up}
 use Rattle.cluster_parts.proofs.Greeting.{GreetLaws, greeted_master, greeting_mails}
 use Rattle.cluster_agents.proofs.Making.{ItemsStand, append_nothing, items_by, quiet_streams}
@@ -46,7 +46,7 @@ use Rattle.cluster_parts.proofs.Outgoing.{kept_so, sides_send_nothing, told_so}
 pub record StopLaws : Type 0 where
   pub greet : GreetLaws
   pub stand : ItemsStand
-  pub fresh : (setup : Setup) (agents : List ConfiguredAgent) (records : List Durable) → AreAgentsOf agents records → new_master setup.run agents ≡ master_of (opened_over setup records)
+  pub fresh : (setup : Setup) (agents : List ConfiguredAgent) (records : List RecordParts) → AreAgentsOf agents records → new_master setup.run agents ≡ master_of (opened_over setup records)
   pub state : (c : Cluster) → nat_lt c.world.run.number last_run ≡ true → (done c (master_stops c)).after ≡ (done (anew c) (greets_all (anew c))).after
   pub mails : (c : Cluster) → nat_lt c.world.run.number last_run ≡ true → (done c (master_stops c)).outputs.sent ≡ (done (anew c) (greets_all (anew c))).outputs.sent
   pub master : (c : Cluster) → master_of (anew c) ≡ next_master (master_of c)
@@ -54,7 +54,7 @@ pub record StopLaws : Type 0 where
   pub parts_fallen : (c : Cluster) → parts_of (new_master_falls c).after.world.channels ≡ parts_of c.world.channels
   pub receives : (streams : List Stream) (opens : List Numbered) (sent_outs : List StreamEvent) → AreWithin streams → kept_streams (streams_after streams opens sent_outs) ≡ received opens sent_outs (kept_streams streams)
   pub ids : (streams : List Stream) (opens : List Numbered) (sent_outs : List StreamEvent) → ids_of (streams_after streams opens sent_outs) ≡ kept_ids (kept_streams streams) ++ opens
-  pub rising : (setup : Setup) (records : List Durable) (steps : List Marked) → AreRising (ids_of (history setup records steps).state.streams)
+  pub rising : (setup : Setup) (records : List RecordParts) (steps : List Marked) → AreRising (ids_of (history setup records steps).state.streams)
 
 -- ---- of its sides a new master has the names of the opening's records
 
@@ -64,11 +64,11 @@ restarted_grown [] (n ∷ ns) h = absurd h
 restarted_grown (o ∷ os) [] h = absurd h
 restarted_grown (o ∷ os) (n ∷ ns) h = cons_same (restarted n.side) (restarted o.side) (map restarted (sides_of ns)) (map restarted (sides_of os)) (ap new_side h.0.name) (restarted_grown os ns h.1)
 
-opened_again : (records : List Durable) → map restarted (sides_of (map open_channel records)) ≡ sides_of (map open_channel records)
+opened_again : (records : List RecordParts) → map restarted (sides_of (map open_channel records)) ≡ sides_of (map open_channel records)
 opened_again [] = refl
 opened_again (d ∷ ds) = ap (λ (ss : List Side). new_side d.name ∷ ss) (opened_again ds)
 
-history_restarted : (setup : Setup) (records : List Durable) (steps : List Marked) → map restarted (sides_of (history setup records steps).state.world.channels) ≡ sides_of (map open_channel records)
+history_restarted : (setup : Setup) (records : List RecordParts) (steps : List Marked) → map restarted (sides_of (history setup records steps).state.world.channels) ≡ sides_of (map open_channel records)
 history_restarted setup records steps =
     reached (λ w. map restarted (sides_of w.channels) ≡ sides_of (map open_channel records)) (λ w h e. restarted_grown w.channels (after w h).channels (world_grown w h) ∙ e) setup records steps (opened_again records)
 
@@ -84,9 +84,9 @@ next_is_new laws c r agents of =
 abbrev stopping : Bool → Marked
 stopping b = record { fell = b; step = StopMaster }
 
-same_restart : (c : Cluster) (run : ℕ) (made made2 : Made) (n n2 : Option (Option Master)) (js js2 : List Item) (ts ts2 : List KeptStream) → made ≡ made2 → n ≡ n2 → js ≡ js2 → ts ≡ ts2 → Restarts c made2 run n2 js2 ts2 → Restarts c made run n js ts
+same_restart : (c : Cluster) (run : ℕ) (made made2 : StepOutcome) (n n2 : Option (Option Master)) (js js2 : List Item) (ts ts2 : List KeptStream) → made ≡ made2 → n ≡ n2 → js ≡ js2 → ts ≡ ts2 → Restarts c made2 run n2 js2 ts2 → Restarts c made run n js ts
 same_restart c run made made2 n n2 js js2 ts ts2 e f g h x =
-    subst (λ (y : Made). Restarts c y run n js ts) (sym e)
+    subst (λ (y : StepOutcome). Restarts c y run n js ts) (sym e)
     (subst (λ (y : Option (Option Master)). Restarts c made2 run y js ts) (sym f)
     (subst (λ (y : List Item). Restarts c made2 run n2 y ts) (sym g)
     (subst (λ (y : List KeptStream). Restarts c made2 run n2 js2 y) (sym h) x)))
@@ -208,12 +208,12 @@ last_halts laws c master items ss r stands none = subst (Restarts c (ends_with v
 
 -- ---- what becomes of the new master's greetings
 
-falls_then : StopLaws → (c : Cluster) (made : Made) (n : Option (Option Master)) (items js : List Item) (ts : List KeptStream) → Reached c → AreWithin c.streams → StandIn c items → nat_lt c.world.run.number last_run ≡ true →
+falls_then : StopLaws → (c : Cluster) (made : StepOutcome) (n : Option (Option Master)) (items js : List Item) (ts : List KeptStream) → Reached c → AreWithin c.streams → StandIn c items → nat_lt c.world.run.number last_run ≡ true →
     Falls made n items js (kept_streams c.streams) ts → Restarts c made (1 + c.world.run.number) n js ts
 falls_then laws c made n items js ts r within stand later f =
     same_restart c (1 + c.world.run.number) made (ends_with verdicts.OutOfMemory) n None js items ts (kept_streams c.streams) f.is f.down f.same_items f.same_streams (anew_falls laws c items r within stand later)
 
-anew_here : StopLaws → (c : Cluster) (r : Reached c) (agents : List ConfiguredAgent) (answered : Result Outs MasterFault) (made : Made) (started n : Option (Option Master)) (items js : List Item) (ts : List KeptStream) → AreAgentsOf agents r.records → AreWithin c.streams → StandIn c items → nat_lt c.world.run.number last_run ≡ true →
+anew_here : StopLaws → (c : Cluster) (r : Reached c) (agents : List ConfiguredAgent) (answered : Result Outs MasterFault) (made : StepOutcome) (started n : Option (Option Master)) (items js : List Item) (ts : List KeptStream) → AreAgentsOf agents r.records → AreWithin c.streams → StandIn c items → nat_lt c.world.run.number last_run ≡ true →
     Starts answered started (1 + c.world.run.number) agents → Settles answered made started n items js (kept_streams c.streams) ts → Restarts c made (1 + c.world.run.number) n js ts
 anew_here laws c r agents (Ok outs) made started n items js ts of within stand later (begins, brings) (inl t) =
     same_restart c (1 + c.world.run.number) made (made_of sent_outs) n (Some (Some (master_of (anew c)))) js (items ++ map item_to sent_outs.mails) ts (received [] [] (kept_streams c.streams))
@@ -232,7 +232,7 @@ anew_here laws c r agents (Ok outs) made started n items js ts of within stand l
 anew_here laws c r agents (Err fault.OutOfMemory) made started n items js ts of within stand later h f = falls_then laws c made n items js ts r within stand later f
 anew_here laws c r agents (Err (fault.Refused refusal)) made started n items js ts of within stand later h t = absurd h
 
-pub anew_made : StopLaws → (c : Cluster) (r : Reached c) (agents : List ConfiguredAgent) (answered : Result Outs MasterFault) (made : Made) (master started n : Option (Option Master)) (items js : List Item) (ss ts : List KeptStream) → AreAgentsOf agents r.records → StandsFor c master items ss → nat_lt c.world.run.number last_run ≡ true →
+pub anew_made : StopLaws → (c : Cluster) (r : Reached c) (agents : List ConfiguredAgent) (answered : Result Outs MasterFault) (made : StepOutcome) (master started n : Option (Option Master)) (items js : List Item) (ss ts : List KeptStream) → AreAgentsOf agents r.records → StandsFor c master items ss → nat_lt c.world.run.number last_run ≡ true →
     Starts answered started (1 + c.world.run.number) agents → Settles answered made started n items js ss ts → Restarts c made (1 + c.world.run.number) n js ts
 anew_made laws c r agents answered made master started n items js ss ts of stands later begins settles =
     anew_here laws c r agents answered made started n items js ts of stands.within stands.as_items later begins (subst (λ (xs : List KeptStream). Settles answered made started n items js xs ts) stands.as_streams settles)

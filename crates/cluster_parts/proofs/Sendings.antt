@@ -1,33 +1,33 @@
 -- Calls are sent, and events are taken.
 use Rattle.std.proofs.Common.{◌≡◌, suc, Bool, false, List, [], ◌∷◌, ◌++◌, map, Option, Some, None, Ok, Err, refl, sym, ap, ◌∙◌, subst}
-use Rattle.mails.specs.declared.call.Call.{Call}
-use Rattle.mails.specs.declared.record.Durable.{Durable}
+use Rattle.messages.specs.declared.call.Call.{Call}
+use Rattle.messages.specs.declared.record.RecordParts.{RecordParts}
 use Rattle.names_core.specs.Ids.{Numbered}
-use Rattle.cluster_histories.specs.Clusters.{Cluster, Stream}
-use Rattle.cluster_steps.specs.declared.step.Step.TheVariants.{Send, Take}
-use Rattle.cluster_steps.specs.declared.step.Step.{Step}
-use Rattle.cluster_steps.specs.declared.fault.ClusterFault.TheVariants.{NoSuchMail}
-use Rattle.cluster_steps.specs.declared.verdict.Verdict.TheVariants.{Ok as Fine}
+use Rattle.cluster_model.specs.Clusters.{Cluster, Stream}
+use Rattle.messages.specs.declared.steps.step.Step.TheVariants.{Send, Take}
+use Rattle.messages.specs.declared.steps.step.Step.{Step}
+use Rattle.messages.specs.declared.steps.fault.ClusterFault.TheVariants.{NoSuchMail}
+use Rattle.messages.specs.declared.steps.verdict.Verdict.TheVariants.{Ok as Fine}
 use Rattle.cluster_model.specs.Events.{Event}
 use Rattle.cluster_model.specs.Masters.{Master}
-use Rattle.cluster_histories.specs.Steps.{Setup, Done, Marked, answer, history, sends, takes_event, takes_one}
+use Rattle.cluster_model.specs.Steps.{Setup, Done, Marked, answer, history, sends, takes_event, takes_one}
 use Rattle.cluster_laws.specs.declared.item.Item.{Item}
 use Rattle.cluster_laws.specs.declared.item.Item.TheVariants as items
 use Rattle.cluster_laws.specs.Items.{StandIn}
 use Rattle.cluster_laws.specs.Runs.{AreRising, ids_of}
-use Rattle.cluster_entries.specs.declared.entry.Outputs.{Outputs}
-use Rattle.cluster_steps.specs.declared.verdict.Sent as entries_so
-use Rattle.cluster_steps.specs.declared.verdict.Sent.TheVariants as entries
-use Rattle.cluster_steps.specs.declared.verdict.Verdict.TheVariants as verdicts
-use Rattle.event_streams.specs.Kept.{AreWithin, kept_streams, untaken}
-use Rattle.event_streams.specs.Streams.{next_on, taken}
-use Rattle.event_streams.specs.declared.kept.KeptStream.{KeptStream}
+use Rattle.messages.specs.declared.entries.entry.Outputs.{Outputs}
+use Rattle.messages.specs.declared.steps.verdict.Sent as entries_so
+use Rattle.messages.specs.declared.steps.verdict.Sent.TheVariants as entries
+use Rattle.messages.specs.declared.steps.verdict.Verdict.TheVariants as verdicts
+use Rattle.cluster_channels.specs.Kept.{AreWithin, kept_streams, untaken}
+use Rattle.cluster_channels.specs.Streams.{next_on, taken}
+use Rattle.cluster_channels.specs.declared.streams.kept.KeptStream.{KeptStream}
 use Rattle.cluster_agents.specs.Agents.{KeptAgent}
 use Rattle.cluster_parts.specs.Masters.{MasterMakes, StandsFor, taking, taking_out}
 use Rattle.cluster_agents.specs.Moves.{Makes, Reached, kept_agents, sending}
 use Rattle.cluster_parts.specs.Parts.{PartsOf, Takes}
-use Rattle.cluster_agents.specs.declared.outcomes.Made.{Made}
-use Rattle.cluster_parts.specs.declared.parts.Parts.{Parts}
+use Rattle.cluster_agents.specs.declared.outcomes.StepOutcome.{StepOutcome}
+use Rattle.cluster_parts.specs.declared.parts.ClusterState.{ClusterState}
 use Rattle.cluster_agents.proofs.Making.{ItemsStand, append_nothing, items_by}
 use Rattle.cluster_parts.proofs.Parting.{agent_takes, master_takes}
 
@@ -51,20 +51,20 @@ send_made law c stream call sent r stand = record {
 abbrev pub SendLaw : Type 0
 SendLaw = (c : Cluster) (stream : Option Numbered) (call : Call) (sent : List Item) → Reached c → StandIn c sent → Makes c (Send stream call) verdicts.Ok (sending (entries.Call ∷ [])) (kept_agents c) (sent ++ items.Call stream call ∷ [])
 
-pub send_takes : {T : Type 0} → SendLaw → (c : Cluster) (stream : Option Numbered) (call given : Call) (made : Made) (sent_outs : List entries_so.Sent) (more : List Item) (p : Parts T) (js : List Item) (post : T) → PartsOf c p → given ≡ call → more ≡ items.Call stream given ∷ [] → sent_outs ≡ entries.Call ∷ [] → js ≡ p.served.items ++ more →
+pub send_takes : {T : Type 0} → SendLaw → (c : Cluster) (stream : Option Numbered) (call given : Call) (made : StepOutcome) (sent_outs : List entries_so.Sent) (more : List Item) (p : ClusterState T) (js : List Item) (post : T) → PartsOf c p → given ≡ call → more ≡ items.Call stream given ∷ [] → sent_outs ≡ entries.Call ∷ [] → js ≡ p.served.items ++ more →
     made ≡ record { verdict = verdicts.Ok; outputs = sending sent_outs; durable = None } → Takes c (Send stream call) made (record p { served = record p.served { items = js; post = post } })
 send_takes law c stream call given made sent_outs more p js post of same as_item as_told added is =
     let m : Makes c (Send stream call) verdicts.Ok (sending (entries.Call ∷ [])) (kept_agents c) (p.served.items ++ items.Call stream call ∷ []) = law c stream call p.served.items of.reached of.stands.as_others.as_items in
     let kept : js ≡ p.served.items ++ items.Call stream call ∷ [] = added ∙ ap (λ (xs : List Item). p.served.items ++ xs) (as_item ∙ ap (λ (x : Call). items.Call stream x ∷ []) same) in
     let how : made ≡ record { verdict = verdicts.Ok; outputs = sending (entries.Call ∷ []); durable = None } = is ∙ ap (λ (xs : List entries_so.Sent). record { verdict = verdicts.Ok; outputs = sending xs; durable = None }) as_told in
-    subst (λ (x : Made). Takes c (Send stream call) x (record p { served = record p.served { items = js; post = post } })) (sym how)
+    subst (λ (x : StepOutcome). Takes c (Send stream call) x (record p { served = record p.served { items = js; post = post } })) (sym how)
     (agent_takes c (Send stream call) (record { verdict = verdicts.Ok; outputs = sending (entries.Call ∷ []); durable = None }) p (record p { served = record p.served { items = js; post = post } }) of
     (subst (λ (xs : List KeptAgent). Makes c (Send stream call) verdicts.Ok (sending (entries.Call ∷ [])) xs js) (sym of.stands.as_agents)
     (subst (λ (xs : List Item). Makes c (Send stream call) verdicts.Ok (sending (entries.Call ∷ [])) (kept_agents c) xs) (sym kept) m)) refl refl refl refl refl)
 
 pub record TakeLaws : Type 0 where
   pub stand : ItemsStand
-  pub rising : (setup : Setup) (records : List Durable) (steps : List Marked) → AreRising (ids_of (history setup records steps).state.streams)
+  pub rising : (setup : Setup) (records : List RecordParts) (steps : List Marked) → AreRising (ids_of (history setup records steps).state.streams)
   pub next : (c : Cluster) (id : Numbered) → next_on id (kept_streams c.streams) ≡ untaken c id
   pub answers : (c : Cluster) (id : Numbered) → answer c (Take id) ≡ takes_event c id (untaken c id)
   pub takes : (streams : List Stream) (id : Numbered) → kept_streams (map (takes_one id) streams) ≡ taken id (kept_streams streams)
@@ -112,7 +112,7 @@ abbrev pub TakeLaw : Type 0
 TakeLaw = (c : Cluster) (id : Numbered) (event : Event) (master : Option (Option Master)) (sent : List Item) → Reached c → StandsFor c master sent (kept_streams c.streams) → next_on id (kept_streams c.streams) ≡ Some event →
     MasterMakes c (Take id) c.last_tick (taking id event) master sent (taken id (kept_streams c.streams))
 
-pub take_takes : {T : Type 0} → TakeLaw → (c : Cluster) (id : Numbered) (event : Event) (outs : Outputs) (p : Parts T) (ts : List KeptStream) → PartsOf c p → next_on id p.served.streams ≡ Some event → outs ≡ taking_out id event → ts ≡ taken id p.served.streams →
+pub take_takes : {T : Type 0} → TakeLaw → (c : Cluster) (id : Numbered) (event : Event) (outs : Outputs) (p : ClusterState T) (ts : List KeptStream) → PartsOf c p → next_on id p.served.streams ≡ Some event → outs ≡ taking_out id event → ts ≡ taken id p.served.streams →
     Takes c (Take id) (record { verdict = verdicts.Ok; outputs = outs; durable = None }) (record p { served = record p.served { streams = ts } })
 take_takes law c id event outs p ts of e is left =
     let same = of.stands.as_others.as_streams in

@@ -1,31 +1,31 @@
 -- What a master that serves does in each step.
 use Rattle.std.proofs.Common.{◌≡◌, ℕ, true, false, List, Option, Some, Result, Err, refl, sym, ap, ◌∙◌, subst, nat_lt}
-use Rattle.mails.specs.declared.call.Call.{Call}
-use Rattle.agent_sides.specs.Named.{lost_by}
+use Rattle.messages.specs.declared.call.Call.{Call}
+use Rattle.master_agents.specs.Named.{lost_by}
 use Rattle.names_core.specs.Ids.{Numbered}
-use Rattle.cluster_model.specs.Calls.{called}
+use Rattle.cluster_model.specs.Calls.{call_effect}
 use Rattle.cluster_model.specs.Channels.{Channel}
-use Rattle.cluster_histories.specs.Clusters.{Called, Cluster, Stream, master_of}
-use Rattle.cluster_steps.specs.declared.step.Step.TheVariants.{Allocate, Deliver, HangUp, LoseAgent, Tick}
-use Rattle.cluster_steps.specs.declared.fault.ClusterFault.{ClusterFault}
-use Rattle.cluster_steps.specs.declared.fault.ClusterFault.TheVariants.{MasterDown, TimeBack}
+use Rattle.cluster_model.specs.Clusters.{Called, Cluster, Stream, master_of}
+use Rattle.messages.specs.declared.steps.step.Step.TheVariants.{Allocate, Deliver, HangUp, LoseAgent, Tick}
+use Rattle.messages.specs.declared.steps.fault.ClusterFault.{ClusterFault}
+use Rattle.messages.specs.declared.steps.fault.ClusterFault.TheVariants.{MasterDown, TimeBack}
 use Rattle.cluster_model.specs.Mails.{agent_lost, hung_up, ticked}
-use Rattle.role_weights.specs.Weights.{RoleWeight}
+use Rattle.names_core.specs.Weights.{RoleWeight}
 use Rattle.cluster_model.specs.Masters.{Master}
 use Rattle.cluster_model.specs.Rounds.{allocated}
 use Rattle.cluster_model.specs.Sides.{Side}
-use Rattle.cluster_histories.specs.Steps.{Done, at_channel, channel_of, delivers, hangs_up, loses_agent, master_does, post_at, stream_at, ticks_at, with_master, with_tick}
+use Rattle.cluster_model.specs.Steps.{Done, at_channel, channel_of, delivers, hangs_up, loses_agent, master_does, post_at, stream_at, ticks_at, with_master, with_tick}
 use Rattle.cluster_laws.specs.Runs.{KeepsRun, RefusesAlone}
 use Rattle.cluster_parts.specs.Masters.{Does}
 use Rattle.cluster_agents.proofs.Committing.{if_it_is_down, if_it_is_up}
 
 pub record DoingLaws : Type 0 where
-  pub calls : (c : Cluster) (stream : Option Numbered) (call : Call) → KeepsRun c (called (master_of c) stream call)
+  pub calls : (c : Cluster) (stream : Option Numbered) (call : Call) → KeepsRun c (call_effect (master_of c) stream call)
   pub rounds : (c : Cluster) → KeepsRun c (allocated c.weights (master_of c))
   pub ticks : (c : Cluster) (now : ℕ) → KeepsRun c (ticked (master_of c) now)
   pub losses : (c : Cluster) (s : Side) → KeepsRun c (agent_lost (master_of c) s)
   pub hang_ups : (c : Cluster) (stream : Numbered) → KeepsRun c (hung_up (master_of c) stream)
-  pub alone_calls : (m : Master) (stream : Option Numbered) (call : Call) → RefusesAlone m (called m stream call)
+  pub alone_calls : (m : Master) (stream : Option Numbered) (call : Call) → RefusesAlone m (call_effect m stream call)
   pub alone_rounds : (weights : List RoleWeight) (m : Master) → RefusesAlone m (allocated weights m)
   pub alone_ticks : (m : Master) (now : ℕ) → RefusesAlone m (ticked m now)
   pub alone_losses : (m : Master) (s : Side) → RefusesAlone m (agent_lost m s)
@@ -35,7 +35,7 @@ pub record DoingLaws : Type 0 where
 up : (c : Cluster) (r : Result Done ClusterFault) → c.world.run.serves ≡ true → with_master c r ≡ r
 up c r e = if_it_is_down c.world.run.serves r (Err MasterDown) e
 
-pub does_calls : DoingLaws → (c : Cluster) (n : ℕ) (stream : Option Numbered) (call : Call) → c.world.run.serves ≡ true → post_at c n ≡ Some (Called stream call) → Does c (Deliver n) c.last_tick (called (master_of c) stream call)
+pub does_calls : DoingLaws → (c : Cluster) (n : ℕ) (stream : Option Numbered) (call : Call) → c.world.run.serves ≡ true → post_at c n ≡ Some (Called stream call) → Does c (Deliver n) c.last_tick (call_effect (master_of c) stream call)
 does_calls laws c n stream call serves post = record {
   answers = up c (delivers c (post_at c n)) serves ∙ ap (delivers c) post;
   falls = refl;

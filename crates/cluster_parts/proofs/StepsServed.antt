@@ -2,29 +2,29 @@
 use Rattle.std.proofs.Common.{◌≡◌, ◌<◌, ◌≤◌, ℕ, zero, suc, arith, nat_lt, slice_get, is_none, is_some, option_map, true, false, Bool, List, ◌++◌, Option, Some, None, Result, Ok, Err, inl, inr, refl, sym, ap, ◌∙◌, subst}
 use Rattle.std.specs.Prelude.{◌⊎◌, IfOk}
 use Rattle.std.proofs.lemmas.Bool.Decides.{nat_tests}
-use Rattle.mails.specs.declared.call.Call.{Call}
-use Rattle.mails.specs.declared.mail.AgentMail.{AgentMail}
+use Rattle.messages.specs.declared.call.Call.{Call}
+use Rattle.messages.specs.declared.mail.AgentMail.{AgentMail}
 use Rattle.names_core.specs.Ids.{Numbered}
 use Rattle.cluster_model.specs.Mails.{ticked}
-use Rattle.cluster_histories.specs.Clusters.{Called, Cluster, Down, Post, Stream, Up, master_of}
-use Rattle.cluster_steps.specs.declared.step.Step.TheVariants.{Deliver, HangUp, LoseAgent, Tick}
-use Rattle.cluster_steps.specs.declared.step.Step.{Step}
-use Rattle.cluster_steps.specs.declared.fault.ClusterFault.{ClusterFault}
-use Rattle.cluster_steps.specs.declared.fault.ClusterFault.TheVariants.{MasterDown, NoSuchAgent, NoSuchMail, TimeBack}
+use Rattle.cluster_model.specs.Clusters.{Called, Cluster, Down, Post, Stream, Up, master_of}
+use Rattle.messages.specs.declared.steps.step.Step.TheVariants.{Deliver, HangUp, LoseAgent, Tick}
+use Rattle.messages.specs.declared.steps.step.Step.{Step}
+use Rattle.messages.specs.declared.steps.fault.ClusterFault.{ClusterFault}
+use Rattle.messages.specs.declared.steps.fault.ClusterFault.TheVariants.{MasterDown, NoSuchAgent, NoSuchMail, TimeBack}
 use Rattle.cluster_model.specs.Channels.{Channel}
-use Rattle.cluster_model.specs.Masters.{Doing, Master}
-use Rattle.cluster_histories.specs.Steps.{Done, answer, at_channel, channel_of, delivers, delivers_up, hangs_up, loses_agent, master_does, master_receives, post_at, stream_at, ticks_at, with_master, with_tick}
+use Rattle.cluster_model.specs.Masters.{MasterEffect, Master}
+use Rattle.cluster_model.specs.Steps.{Done, answer, at_channel, channel_of, delivers, delivers_up, hangs_up, loses_agent, master_does, master_receives, post_at, stream_at, ticks_at, with_master, with_tick}
 use Rattle.cluster_laws.specs.declared.item.Item.{Item}
 use Rattle.cluster_laws.specs.declared.item.Item.TheVariants as sent_items
 use Rattle.cluster_laws.specs.Items.{StandIn}
-use Rattle.cluster_steps.specs.declared.fault.ClusterFault.TheVariants as faults
+use Rattle.messages.specs.declared.steps.fault.ClusterFault.TheVariants as faults
 use Rattle.cluster_laws.specs.Runs.{AreRising}
 use Rattle.master_core.specs.Steps.{Answers}
 use Rattle.master_state.specs.declared.fault.MasterFault.{MasterFault}
 use Rattle.master_state.specs.declared.state.Outs.{Outs}
-use Rattle.event_streams.specs.Kept.{AreWithin, kept_stream, kept_streams}
-use Rattle.event_streams.specs.declared.kept.KeptStream.{KeptStream}
-use Rattle.event_streams.specs.Streams.{kept_ids, stream_kept}
+use Rattle.cluster_channels.specs.Kept.{AreWithin, kept_stream, kept_streams}
+use Rattle.cluster_channels.specs.declared.streams.kept.KeptStream.{KeptStream}
+use Rattle.cluster_channels.specs.Streams.{kept_ids, stream_kept}
 use Rattle.cluster_agents.specs.Causes.{item_at}
 use Rattle.cluster_agents.specs.Handing.{MayRefuse}
 use Rattle.cluster_parts.specs.Masters.{Does, MasterMakes, Settles, StandsFor, kept_master}
@@ -32,22 +32,22 @@ use Rattle.cluster_agents.specs.Moves.{Reached, kept_agents}
 use Rattle.cluster_agents.specs.Agents.{KeptAgent, place_in}
 use Rattle.cluster_agents.proofs.Finding.{found, not_found}
 use Rattle.cluster_parts.specs.Parts.{PartsOf, Takes, record_of}
-use Rattle.cluster_agents.specs.declared.outcomes.Made.{Made}
-use Rattle.cluster_parts.specs.declared.parts.Parts.{Parts}
+use Rattle.cluster_agents.specs.declared.outcomes.StepOutcome.{StepOutcome}
+use Rattle.cluster_parts.specs.declared.parts.ClusterState.{ClusterState}
 use Rattle.cluster_agents.proofs.Committing.{if_it_is_down, if_it_is_up}
 use Rattle.cluster_agents.proofs.Preparing.{item_behind}
 use Rattle.cluster_parts.proofs.Mastering.{none_serves, serves_if}
 use Rattle.cluster_parts.proofs.Parting.{master_takes}
 
 abbrev pub MadeLaw : Type 0
-MadeLaw = (c : Cluster) (s : Step) (moment : ℕ) (doing : Master → Doing) (answered : Result Outs MasterFault) (after : Option Master) (made : Made) (n : Option (Option Master)) (items js : List Item) (ts : List KeptStream) →
+MadeLaw = (c : Cluster) (s : Step) (moment : ℕ) (doing : Master → MasterEffect) (answered : Result Outs MasterFault) (after : Option Master) (made : StepOutcome) (n : Option (Option Master)) (items js : List Item) (ts : List KeptStream) →
     Reached c → AreWithin c.streams → StandIn c items → c.world.run.serves ≡ true → Does c s moment (doing (master_of c)) → Answers answered (Some (master_of c)) after doing → Settles answered made (Some after) n items js (kept_streams c.streams) ts → MasterMakes c s moment made n js ts
 
 abbrev pub RiseLaw : Type 0
-RiseLaw = (c : Cluster) (s : Step) (moment : ℕ) (doing : Master → Doing) (answered : Result Outs MasterFault) (after : Option Master) → Reached c → Does c s moment (doing (master_of c)) → Answers answered (Some (master_of c)) after doing →
+RiseLaw = (c : Cluster) (s : Step) (moment : ℕ) (doing : Master → MasterEffect) (answered : Result Outs MasterFault) (after : Option Master) → Reached c → Does c s moment (doing (master_of c)) → Answers answered (Some (master_of c)) after doing →
     IfOk answered (λ outs. AreRising (kept_ids (kept_streams c.streams) ++ outs.opened))
 
-pub serve_takes : {T : Type 0} → MadeLaw → (c : Cluster) (s : Step) (moment : ℕ) (doing : Master → Doing) (before after : Option Master) (answered : Result Outs MasterFault) (made : Made) (p q : Parts T) →
+pub serve_takes : {T : Type 0} → MadeLaw → (c : Cluster) (s : Step) (moment : ℕ) (doing : Master → MasterEffect) (before after : Option Master) (answered : Result Outs MasterFault) (made : StepOutcome) (p q : ClusterState T) →
     PartsOf c p → p.served.master ≡ Some before → (c.world.run.serves ≡ true → Does c s moment (doing (master_of c))) → Answers answered before after doing → Settles answered made (Some after) q.served.master p.served.items q.served.items p.served.streams q.served.streams →
     q.agents.items ≡ p.agents.items → q.run ≡ p.run → q.last_tick ≡ moment → None ≡ record_of s made.verdict q.agents.items → Takes c s made q
 serve_takes law c s moment doing before after answered made p q of is how a settles agents run tick none =
@@ -58,7 +58,7 @@ serve_takes law c s moment doing before after answered made p q of is how a sett
     (subst (λ (m : Option Master). Answers answered m after doing) up.1 a)
     (subst (λ (xs : List KeptStream). Settles answered made (Some after) q.served.master p.served.items q.served.items xs q.served.streams) stands.as_streams settles)) agents run tick none
 
-pub serve_rise : {T : Type 0} → RiseLaw → (c : Cluster) (s : Step) (moment : ℕ) (doing : Master → Doing) (before after : Option Master) (answered : Result Outs MasterFault) (p : Parts T) →
+pub serve_rise : {T : Type 0} → RiseLaw → (c : Cluster) (s : Step) (moment : ℕ) (doing : Master → MasterEffect) (before after : Option Master) (answered : Result Outs MasterFault) (p : ClusterState T) →
     PartsOf c p → p.served.master ≡ Some before → (c.world.run.serves ≡ true → Does c s moment (doing (master_of c))) → Answers answered before after doing → IfOk answered (λ outs. AreRising (kept_ids p.served.streams ++ outs.opened))
 serve_rise law c s moment doing before after answered p of is how a =
     let stands = of.stands.as_others in
@@ -146,7 +146,7 @@ serves_where : (m : Master) (o : Option (Option Master)) → o ≡ kept_master m
 serves_where m None e h = absurd (let clash : true ≡ false = h in cc)
 serves_where m (Some o) e h = (serves_if m o e).0
 
-pub deliver_withheld : {T : Type 0} → (c : Cluster) (p : Parts T) (gives : ℕ → Bool) (n : ℕ) → PartsOf c p → is_none p.served.master ≡ false → gives n ≡ false → MayRefuse c gives (Deliver n) faults.NoSuchMail
+pub deliver_withheld : {T : Type 0} → (c : Cluster) (p : ClusterState T) (gives : ℕ → Bool) (n : ℕ) → PartsOf c p → is_none p.served.master ≡ false → gives n ≡ false → MayRefuse c gives (Deliver n) faults.NoSuchMail
 deliver_withheld c p gives n of up none = by (unsent_or_delivered c (post_at c n))
   where
     asked : answer c (Deliver n) ≡ delivers c (post_at c n)
@@ -156,7 +156,7 @@ deliver_withheld c p gives n of up none = by (unsent_or_delivered c (post_at c n
     by (inl e) = inl (asked ∙ e)
     by (inr (d, e)) = inr (refl, (n, d, refl, none, asked ∙ e))
 
-pub deliver_down : {T : Type 0} → (c : Cluster) (p : Parts T) (n : ℕ) → PartsOf c p → is_none p.served.master ≡ true → answer c (Deliver n) ≡ Err MasterDown
+pub deliver_down : {T : Type 0} → (c : Cluster) (p : ClusterState T) (n : ℕ) → PartsOf c p → is_none p.served.master ≡ true → answer c (Deliver n) ≡ Err MasterDown
 deliver_down c p n of down = no_master c (delivers c (post_at c n)) p.served.items p.served.streams (at p.served.master of.stands.as_others down)
   where
     at : (o : Option (Option Master)) → StandsFor c o p.served.items p.served.streams → is_none o ≡ true → StandsFor c None p.served.items p.served.streams

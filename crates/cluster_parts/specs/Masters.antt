@@ -1,31 +1,31 @@
 -- What represents the master's part of a state: the master, all that was sent, and the streams.
 use Rattle.std.specs.Prelude.{◌≡◌, ◌⊎◌, ◌++◌, ℕ, if◌then◌else◌, List, [], map, Option, Some, None, Result, Ok, Err}
-use Rattle.scheduler_events.specs.declared.event.Event.{Event}
+use Rattle.messages.specs.declared.events.event.Event.{Event}
 use Rattle.names_core.specs.Ids.{Numbered}
-use Rattle.mails.specs.declared.mail.ToAgent.{ToAgent}
-use Rattle.mails.specs.declared.refusal.MasterRefusal.{MasterRefusal}
-use Rattle.cluster_histories.specs.Clusters.{Cluster, master_of}
-use Rattle.cluster_steps.specs.declared.step.Step.{Step}
-use Rattle.cluster_model.specs.Masters.{Doing, Master}
-use Rattle.cluster_histories.specs.Steps.{Done, answer, fallen_answer, instead, master_does, master_falls, with_tick}
+use Rattle.messages.specs.declared.mail.ToAgent.{ToAgent}
+use Rattle.messages.specs.declared.refusal.MasterRefusal.{MasterRefusal}
+use Rattle.cluster_model.specs.Clusters.{Cluster, master_of}
+use Rattle.messages.specs.declared.steps.step.Step.{Step}
+use Rattle.cluster_model.specs.Masters.{MasterEffect, Master}
+use Rattle.cluster_model.specs.Steps.{Done, answer, fallen_answer, instead, master_does, master_falls, with_tick}
 use Rattle.cluster_laws.specs.declared.item.Item.{Item}
 use Rattle.cluster_laws.specs.declared.item.Item.TheVariants as items
 use Rattle.cluster_laws.specs.Items.{StandIn}
 use Rattle.cluster_laws.specs.Parts.{parts_of}
 use Rattle.cluster_laws.specs.Runs.{KeepsRun, RefusesAlone}
-use Rattle.cluster_entries.specs.declared.entry.Outputs.{Outputs}
-use Rattle.cluster_steps.specs.declared.verdict.Sent.{Sent}
-use Rattle.cluster_steps.specs.declared.verdict.Sent.TheVariants as sent
-use Rattle.cluster_steps.specs.declared.verdict.Verdict.TheVariants as verdicts
-use Rattle.cluster_steps.specs.Verdicts.{fell}
+use Rattle.messages.specs.declared.entries.entry.Outputs.{Outputs}
+use Rattle.messages.specs.declared.steps.verdict.Sent.{Sent}
+use Rattle.messages.specs.declared.steps.verdict.Sent.TheVariants as sent
+use Rattle.messages.specs.declared.steps.verdict.Verdict.TheVariants as verdicts
+use Rattle.messages.specs.Verdicts.{fell}
 use Rattle.master_state.specs.declared.fault.MasterFault.{MasterFault}
 use Rattle.master_state.specs.declared.fault.MasterFault.TheVariants as fault
 use Rattle.master_state.specs.declared.state.Outs.{Outs}
-use Rattle.event_streams.specs.Kept.{AreWithin, kept_streams}
-use Rattle.event_streams.specs.declared.kept.KeptStream.{KeptStream}
-use Rattle.event_streams.specs.Streams.{received}
+use Rattle.cluster_channels.specs.Kept.{AreWithin, kept_streams}
+use Rattle.cluster_channels.specs.declared.streams.kept.KeptStream.{KeptStream}
+use Rattle.cluster_channels.specs.Streams.{received}
 use Rattle.cluster_agents.specs.Outcomes.{ends_with}
-use Rattle.cluster_agents.specs.declared.outcomes.Made.{Made}
+use Rattle.cluster_agents.specs.declared.outcomes.StepOutcome.{StepOutcome}
 
 -- the master, where it serves
 abbrev pub kept_master : Master → Option (Option Master)
@@ -40,7 +40,7 @@ pub record StandsFor (c : Cluster) (master : Option (Option Master)) (items_sent
 
 -- a step of the master was made: what it answers, and what then represents the master's part;
 -- the agents are as they were
-pub record MasterMakes (c : Cluster) (step : Step) (moment : ℕ) (made : Made)
+pub record MasterMakes (c : Cluster) (step : Step) (moment : ℕ) (made : StepOutcome)
     (master : Option (Option Master)) (items_sent : List Item)
     (streams : List KeptStream) : Type 0 where
   pub done : Done
@@ -55,7 +55,7 @@ pub record MasterMakes (c : Cluster) (step : Step) (moment : ℕ) (made : Made)
   pub keeps_moment : done.after.last_tick ≡ moment
 
 -- a step of a master that serves does this, at this moment
-pub record Does (c : Cluster) (step : Step) (moment : ℕ) (d : Doing) : Type 0 where
+pub record Does (c : Cluster) (step : Step) (moment : ℕ) (d : MasterEffect) : Type 0 where
   pub answers : answer c step ≡ master_does (with_tick c moment) d
   pub falls : fallen_answer c step ≡ instead (answer c step) (master_falls (with_tick c moment))
   pub keeps : KeepsRun c d
@@ -78,25 +78,25 @@ outputs_of_master outs =
       taken = None;
     }
 
-abbrev pub made_of : Outs → Made
+abbrev pub made_of : Outs → StepOutcome
 made_of outs = record { verdict = verdicts.Ok; outputs = outputs_of_master outs; durable = None }
 
 -- the master is down, and nothing else changed
-pub record Falls (made : Made) (master : Option (Option Master)) (old_items new_items : List Item)
+pub record Falls (made : StepOutcome) (master : Option (Option Master)) (old_items new_items : List Item)
     (old_streams new_streams : List KeptStream) : Type 0 where
   pub is : made ≡ ends_with verdicts.OutOfMemory
   pub down : master ≡ None
   pub same_items : new_items ≡ old_items
   pub same_streams : new_streams ≡ old_streams
 
-pub record KeepsOutputs (outs : Outs) (made : Made) (old_master new_master : Option (Option Master))
+pub record KeepsOutputs (outs : Outs) (made : StepOutcome) (old_master new_master : Option (Option Master))
     (old_items new_items : List Item) (old_streams new_streams : List KeptStream) : Type 0 where
   pub is : made ≡ made_of outs
   pub same_master : new_master ≡ old_master
   pub more_items : new_items ≡ old_items ++ map item_to outs.mails
   pub more_streams : new_streams ≡ received outs.opened outs.events old_streams
 
-pub record Refused (refusal : MasterRefusal) (made : Made)
+pub record Refused (refusal : MasterRefusal) (made : StepOutcome)
     (old_master new_master : Option (Option Master)) (old_items new_items : List Item)
     (old_streams new_streams : List KeptStream) : Type 0 where
   pub is : made ≡ ends_with (verdicts.MasterRefused refusal)
@@ -105,7 +105,7 @@ pub record Refused (refusal : MasterRefusal) (made : Made)
   pub same_streams : new_streams ≡ old_streams
 
 -- what becomes of the master's answer
-abbrev pub Settles : Result Outs MasterFault → Made → Option (Option Master)
+abbrev pub Settles : Result Outs MasterFault → StepOutcome → Option (Option Master)
     → Option (Option Master) → List Item → List Item → List KeptStream → List KeptStream → Type 0
 Settles (Ok outs) made m n is js ss ts =
     KeepsOutputs outs made m n is js ss ts ⊎ Falls made n is js ss ts
@@ -123,5 +123,5 @@ taking_out id event =
       taken = Some (record { stream = id; event = event });
     }
 
-abbrev pub taking : Numbered → Event → Made
+abbrev pub taking : Numbered → Event → StepOutcome
 taking id event = record { verdict = verdicts.Ok; outputs = taking_out id event; durable = None }

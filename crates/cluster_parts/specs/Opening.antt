@@ -1,9 +1,9 @@
 -- What a cluster has at its opening.
 use Rattle.std.specs.Prelude.{◌≡◌, ℕ, false, List, Option, Some, Result, Ok, Err, ⊤}
-use Rattle.mails.specs.declared.record.Durable.{Durable}
-use Rattle.agent_sides.specs.declared.config.ConfiguredAgent.{ConfiguredAgent}
+use Rattle.messages.specs.declared.record.RecordParts.{RecordParts}
+use Rattle.master_agents.specs.declared.config.ConfiguredAgent.{ConfiguredAgent}
 use Rattle.cluster_model.specs.Masters.{Master}
-use Rattle.cluster_histories.specs.Steps.{Setup, open_cluster, opening}
+use Rattle.cluster_model.specs.Steps.{Setup, open_cluster, opening}
 use Rattle.cluster_laws.specs.Parts.{recovered_part}
 use Rattle.master_core.specs.Steps.{greeting, outs_of}
 use Rattle.master_state.specs.States.{fresh}
@@ -17,7 +17,7 @@ use Rattle.cluster_agents.specs.Moves.{kept_agents}
 use Rattle.cluster_parts.specs.declared.opening.Opened.{Opened}
 
 -- an agent that came up over its record
-abbrev pub up_over : Durable → KeptAgent
+abbrev pub up_over : RecordParts → KeptAgent
 up_over d = record { part = recovered_part d; is_down = false }
 
 -- the master that begins a run over configured agents
@@ -34,7 +34,7 @@ Starts (Err fault.OutOfMemory) master run agents = ⊤
 Starts (Err (fault.Refused refusal)) master run agents = ⊥
 
 -- what represents the opening, and what it outputs
-pub record Opens {T : Type 0} (setup : Setup) (records : List Durable) (opened : Opened T) : Type 0 where
+pub record Opens {T : Type 0} (setup : Setup) (records : List RecordParts) (opened : Opened T) : Type 0 where
   pub agents : opened.agents.items ≡ kept_agents (opening setup records).state
   pub stands : StandsFor (opening setup records).state opened.served.master opened.served.items
       opened.served.streams

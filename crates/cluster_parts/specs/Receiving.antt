@@ -1,25 +1,25 @@
 -- What is delivered to the master,
 -- and how it ends where the master refuses a mail that it received.
 use Rattle.std.specs.Prelude.{◌≡◌, ℕ, List, Option, Some, None, Result, Ok, Err, ⊤}
-use Rattle.mails.specs.declared.mail.ToMaster.{ToMaster}
-use Rattle.mails.specs.declared.refusal.MasterRefusal.{MasterRefusal}
-use Rattle.cluster_histories.specs.Clusters.{Cluster}
+use Rattle.messages.specs.declared.mail.ToMaster.{ToMaster}
+use Rattle.messages.specs.declared.refusal.MasterRefusal.{MasterRefusal}
+use Rattle.cluster_model.specs.Clusters.{Cluster}
 use Rattle.cluster_model.specs.Masters.{Master}
 use Rattle.cluster_laws.specs.declared.item.Item.{Item}
 use Rattle.cluster_laws.specs.declared.item.Item.TheVariants as items
-use Rattle.cluster_steps.specs.declared.verdict.Verdict.{Verdict}
-use Rattle.cluster_steps.specs.declared.verdict.Verdict.TheVariants as verdicts
-use Rattle.cluster_steps.specs.declared.fault.ClusterFault.{ClusterFault}
-use Rattle.cluster_steps.specs.declared.fault.ClusterFault.TheVariants.{NoSuchMail, MasterDown, AgentDown, DraftOpen, NoDraft, HistoryFull, TimeBack, NoSuchAgent, OutOfMemory}
+use Rattle.messages.specs.declared.steps.verdict.Verdict.{Verdict}
+use Rattle.messages.specs.declared.steps.verdict.Verdict.TheVariants as verdicts
+use Rattle.messages.specs.declared.steps.fault.ClusterFault.{ClusterFault}
+use Rattle.messages.specs.declared.steps.fault.ClusterFault.TheVariants.{NoSuchMail, MasterDown, AgentDown, DraftOpen, NoDraft, HistoryFull, TimeBack, NoSuchAgent, OutOfMemory}
 use Rattle.master_core.specs.declared.master.ReceivedMail.{ReceivedMail}
 use Rattle.master_state.specs.declared.fault.MasterFault.{MasterFault}
-use Rattle.event_streams.specs.declared.kept.KeptStream.{KeptStream}
+use Rattle.cluster_channels.specs.declared.streams.kept.KeptStream.{KeptStream}
 use Rattle.cluster_agents.specs.Causes.{item_at}
 use Rattle.cluster_agents.specs.Moves.{Reached}
 use Rattle.cluster_parts.specs.Masters.{Settles, StandsFor}
 use Rattle.cluster_parts.specs.declared.delivering.ForMaster.{ForMaster}
 use Rattle.cluster_parts.specs.declared.delivering.ForMaster.TheVariants as for_master
-use Rattle.cluster_agents.specs.declared.outcomes.Made.{Made}
+use Rattle.cluster_agents.specs.declared.outcomes.StepOutcome.{StepOutcome}
 
 -- what was sent and isn't for the master, or wasn't sent
 abbrev pub IsNotForMaster : Option Item → Type 0
@@ -57,14 +57,14 @@ refusing refusal (verdicts.AgentRefused other) = verdicts.AgentRefused other
 refusing refusal verdicts.OutOfMemory = verdicts.OutOfMemory
 
 -- why the master refused the mail that it received, if it did
-abbrev pub with_refusal : Option MasterRefusal → Made → Made
+abbrev pub with_refusal : Option MasterRefusal → StepOutcome → StepOutcome
 with_refusal None made = made
 with_refusal (Some refusal) made = record made { verdict = refusing refusal made.verdict }
 
 -- what becomes of the outputs of a mail, refused or not
-abbrev pub SettlesReceived : Result ReceivedMail MasterFault → Made → Option (Option Master)
+abbrev pub SettlesReceived : Result ReceivedMail MasterFault → StepOutcome → Option (Option Master)
     → Option (Option Master) → List Item → List Item → List KeptStream → List KeptStream → Type 0
 SettlesReceived (Ok received) made m n is js ss ts =
-    (settled : Made) × (made ≡ with_refusal received.refusal settled)
+    (settled : StepOutcome) × (made ≡ with_refusal received.refusal settled)
     × Settles (Ok received.outs) settled m n is js ss ts
 SettlesReceived (Err fault) made m n is js ss ts = Settles (Err fault) made m n is js ss ts

@@ -1,16 +1,16 @@
 -- The master stops, and a new one begins the next run.
 use Rattle.std.specs.Prelude.{◌≡◌, ◌+◌, ℕ, nat_lt, if◌then◌else◌, List, Option, Some, None, Ok}
-use Rattle.cluster_histories.specs.Clusters.{Cluster}
-use Rattle.cluster_steps.specs.declared.step.Step.TheVariants.{StopMaster}
+use Rattle.cluster_model.specs.Clusters.{Cluster}
+use Rattle.messages.specs.declared.steps.step.Step.TheVariants.{StopMaster}
 use Rattle.cluster_model.specs.Ids.{last_run}
 use Rattle.cluster_model.specs.Masters.{Master}
-use Rattle.cluster_histories.specs.Steps.{Done, answer, fallen_answer}
+use Rattle.cluster_model.specs.Steps.{Done, answer, fallen_answer}
 use Rattle.cluster_laws.specs.Parts.{parts_of}
 use Rattle.cluster_laws.specs.declared.item.Item.{Item}
-use Rattle.cluster_steps.specs.Verdicts.{fell}
-use Rattle.event_streams.specs.declared.kept.KeptStream.{KeptStream}
+use Rattle.messages.specs.Verdicts.{fell}
+use Rattle.cluster_channels.specs.declared.streams.kept.KeptStream.{KeptStream}
 use Rattle.cluster_parts.specs.Masters.{StandsFor}
-use Rattle.cluster_agents.specs.declared.outcomes.Made.{Made}
+use Rattle.cluster_agents.specs.declared.outcomes.StepOutcome.{StepOutcome}
 
 -- the run after this one; none after the last one
 abbrev pub run_behind : ℕ → Option ℕ
@@ -18,7 +18,7 @@ run_behind run = if nat_lt run last_run then Some (1 + run) else None
 
 -- the master was stopped: how it ends, and what then represents the master's part in this run;
 -- the agents are as they were
-pub record Restarts (c : Cluster) (made : Made) (run : ℕ) (master : Option (Option Master))
+pub record Restarts (c : Cluster) (made : StepOutcome) (run : ℕ) (master : Option (Option Master))
     (sent : List Item) (streams : List KeptStream) : Type 0 where
   pub done : Done
   pub answers : (if fell made.verdict then fallen_answer c StopMaster else answer c StopMaster)

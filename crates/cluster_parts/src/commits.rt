@@ -3,21 +3,25 @@
 ghost use Rattle.std.specs.Prelude.{◌≡◌, length, IfOk, IfErr, OnErr};
 ghost use Rattle.cluster_parts.specs.Parts.{AllRefuse, AllTake, Same};
 ghost use Rattle.cluster_parts.specs.Posts.{Grows};
-ghost use Rattle.cluster_steps.specs.declared.step.Step.TheVariants.{Commit};
+ghost use Rattle.messages.specs.declared.steps.step.Step.TheVariants.{Commit};
 
-use crate::parts::Parts;
+use crate::parts::ClusterState;
 use crate::places::found_up;
-use cluster_agents::{Made, commits_are_made, draft_mails, made_sending};
-use cluster_steps::ClusterFault;
+use cluster_agents::{StepOutcome, commits_are_made, draft_mails, made_sending};
+use cluster_channels::Post;
+use messages::ClusterFault;
 use names_core::AgentName;
-use post_rules::Post;
 use std::alloc::Global;
 
-impl<P: Post> Parts<P> {
+impl<P: Post> ClusterState<P> {
     /// The agent's draft becomes its record, and its mails are sent, for which the post has room
     /// first. It is refused with `C8 NoSuchAgent`, `C3 AgentDown` or `C5 NoDraft`, of several the
     /// first in this order, and with `C9 OutOfMemory`.
-    pub(crate) fn commit(&mut self, alloc: Global, name: &AgentName) -> Result<Made, ClusterFault>
+    pub(crate) fn commit(
+        &mut self,
+        alloc: Global,
+        name: &AgentName,
+    ) -> Result<StepOutcome, ClusterFault>
         ensures made { IfOk result (AllTake self.old (Commit name.now) self.new) }
         ensures refused { IfErr result (AllRefuse self.old (Commit name.now)) }
         ensures unchanged { OnErr result (Same self.old self.new) }

@@ -7,39 +7,37 @@ ghost use Rattle.cluster_parts.specs.Masters.{MasterMakes, StandsFor};
 ghost use Rattle.cluster_agents.specs.Moves.{Refuses};
 ghost use Rattle.cluster_parts.specs.Parts.{AllMayRefuse, AllRefuse, AllTake, AreParts, Same};
 ghost use Rattle.cluster_parts.specs.Posts.{Grows};
-ghost use Rattle.cluster_agents.specs.declared.outcomes.Made.{Made as MadeSo};
+ghost use Rattle.cluster_agents.specs.declared.outcomes.StepOutcome.{StepOutcome as MadeSo};
 ghost use Rattle.cluster_laws.specs.Runs.{AreRising};
 ghost use Rattle.cluster_laws.specs.declared.item.Item.TheVariants as sent;
 ghost use Rattle.cluster_laws.specs.declared.item.Item.{Item as SentItem};
-ghost use Rattle.cluster_histories.specs.Clusters.{Cluster};
-ghost use Rattle.cluster_steps.specs.declared.step.Step.TheVariants.{Deliver};
+ghost use Rattle.cluster_model.specs.Clusters.{Cluster};
+ghost use Rattle.messages.specs.declared.steps.step.Step.TheVariants.{Deliver};
 ghost use Rattle.cluster_model.specs.Masters.{Master as ModelMaster};
-ghost use Rattle.cluster_steps.specs.declared.fault.ClusterFault.{ClusterFault as ClusterFaultSo};
-ghost use Rattle.mails.specs.declared.mail.ToMaster.{ToMaster as SentMail};
+ghost use Rattle.messages.specs.declared.steps.fault.ClusterFault.{ClusterFault as ClusterFaultSo};
+ghost use Rattle.messages.specs.declared.mail.ToMaster.{ToMaster as SentMail};
 ghost use Rattle.master_core.specs.Steps.{Receives};
 ghost use Rattle.master_core.specs.declared.master.ReceivedMail.{ReceivedMail as ReceivedSo};
 ghost use Rattle.cluster_model.specs.Mails.{FitsRecord};
 ghost use Rattle.master_state.specs.declared.fault.MasterFault.{MasterFault as Fault};
-ghost use Rattle.side_fits.specs.Fits.{MailFitsAt};
-ghost use Rattle.event_streams.specs.Streams.{kept_ids};
-ghost use Rattle.event_streams.specs.declared.kept.KeptStream.{KeptStream};
+ghost use Rattle.cluster_model.specs.Fits.{MailFitsAt};
+ghost use Rattle.cluster_channels.specs.Streams.{kept_ids};
+ghost use Rattle.cluster_channels.specs.declared.streams.kept.KeptStream.{KeptStream};
 
-use crate::masters::Served;
-use crate::parts::Parts;
-use cluster_agents::{Made, item_at};
+use crate::masters::MasterAndChannels;
+use crate::parts::ClusterState;
+use cluster_agents::{StepOutcome, item_at};
+use cluster_channels::{Post, kept_streams_follow, no_more_is_taken};
 use cluster_laws::{
     Item, fallen_masters_do_not_serve, items_are_posts, mails_of_agents_fit, masters_leave_agents,
     masters_stay_in_their_run, named_agents_are_found, sent_items_stand, streams_rise,
 };
 use cluster_safe::masters_step_alone;
-use cluster_steps::{ClusterFault, Verdict};
-use event_streams::{kept_streams_follow, no_more_is_taken};
-use mails::{Call as SentCall, MasterRefusal, ToMaster};
 use master_core::{MasterFault, ReceivedMail};
+use messages::{Call as SentCall, ClusterFault, MasterRefusal, ToMaster, Verdict};
 use names_core::StreamId;
-use plain_data::Plain;
-use post_rules::Post;
 use std::alloc::Global;
+use values::Plain;
 
 /// What is for the master: a call with its stream, or a mail of an agent.
 #[derive(Drop)]
@@ -69,7 +67,7 @@ fn mails_are_received()
     ensures fits { (c : Cluster) (number : ℕ) (to : SentMail) (before : Option ModelMaster)
         (items : List SentItem) (ss : List KeptStream)
         → HasMail c number to (Some before) items ss
-        → IfSome before (λ m. MailFitsAt to.agent to.mail m.sides) }
+        → IfSome before (λ m. MailFitsAt m.run to.agent to.mail m.sides) }
     ensures refused { (c : Cluster) (number : ℕ) (fault : ClusterFaultSo)
         (master : Option (Option ModelMaster)) (items : List SentItem) (ss : List KeptStream)
         → StandsFor c master items ss → is_some master ≡ true
@@ -100,7 +98,7 @@ fn for_master(items: &[Item], number: u64) -> Result<ForMaster, ClusterFault>
 }
 
 /// Why the master refused a mail, where it is still up.
-fn with_refusal(mut made: Made, refusal: Option<MasterRefusal>) -> Made
+fn with_refusal(mut made: StepOutcome, refusal: Option<MasterRefusal>) -> StepOutcome
     ensures { result ≡ with_refusal refusal made }
 {
     if let (Some(refusal), Verdict::Ok) = (refusal, made.verdict) {
@@ -109,13 +107,13 @@ fn with_refusal(mut made: Made, refusal: Option<MasterRefusal>) -> Made
     made
 }
 
-impl<P: Post> Served<P> {
+impl<P: Post> MasterAndChannels<P> {
     /// Stores the outputs of a mail, which it may have had though it was refused, and returns them.
     fn settle_received(
         &mut self,
         alloc: Global,
         received: Result<ReceivedMail, MasterFault>,
-    ) -> Made
+    ) -> StepOutcome
         requires { IfOk received
             (λ received. AreRising (kept_ids self.old.streams ++ received.outs.opened)) }
         ensures settled { SettlesReceived received result self.old.master self.new.master
@@ -135,14 +133,14 @@ impl<P: Post> Served<P> {
     }
 }
 
-impl<P: Post> Parts<P> {
+impl<P: Post> ClusterState<P> {
     /// A mail of an agent that was sent under a number is delivered to the master.
     fn deliver_mail(
         &mut self,
         alloc: Global,
         number: u64,
         to: ToMaster,
-    ) -> Result<Made, ClusterFault>
+    ) -> Result<StepOutcome, ClusterFault>
         requires parts { AreParts self.old }
         requires sent { item_at number self.old.served.items ≡ Some (sent.ToMaster to) }
         ensures made { IfOk result (AllTake self.old (Deliver number) self.new) }
@@ -166,7 +164,11 @@ impl<P: Post> Parts<P> {
     /// refused with `C2 MasterDown` where no master serves, with `C1 NoSuchMail` where the post
     /// can't deliver the number, nothing was sent under it or it is a mail to an agent, and with
     /// `C9 OutOfMemory`. A master that runs out of memory in the step is down.
-    pub(crate) fn deliver(&mut self, alloc: Global, number: u64) -> Result<Made, ClusterFault>
+    pub(crate) fn deliver(
+        &mut self,
+        alloc: Global,
+        number: u64,
+    ) -> Result<StepOutcome, ClusterFault>
         requires { AreParts self.old }
         ensures made { IfOk result (AllTake self.old (Deliver number) self.new) }
         ensures refused { IfErr result

@@ -2,16 +2,16 @@
 
 ghost use Rattle.std.specs.Prelude.{◌≡◌, true, false, nat_lt, List, Option, Some, ℕ};
 ghost use Rattle.cluster_parts.specs.Masters.{Does};
-ghost use Rattle.cluster_model.specs.Calls.{called};
+ghost use Rattle.cluster_model.specs.Calls.{call_effect};
 ghost use Rattle.cluster_model.specs.Channels.{Channel};
-ghost use Rattle.cluster_histories.specs.Clusters.{Called, Cluster, Stream, master_of};
-ghost use Rattle.cluster_steps.specs.declared.step.Step.TheVariants.{Allocate, Deliver, HangUp, LoseAgent, Tick};
+ghost use Rattle.cluster_model.specs.Clusters.{Called, Cluster, Stream, master_of};
+ghost use Rattle.messages.specs.declared.steps.step.Step.TheVariants.{Allocate, Deliver, HangUp, LoseAgent, Tick};
 ghost use Rattle.cluster_model.specs.Mails.{hung_up, ticked};
-ghost use Rattle.role_weights.specs.Weights.{RoleWeight};
+ghost use Rattle.names_core.specs.Weights.{RoleWeight};
 ghost use Rattle.cluster_model.specs.Rounds.{allocated};
-ghost use Rattle.cluster_histories.specs.Steps.{channel_of, post_at, stream_at};
-ghost use Rattle.mails.specs.declared.call.Call.{Call};
-ghost use Rattle.agent_sides.specs.Named.{lost_by};
+ghost use Rattle.cluster_model.specs.Steps.{channel_of, post_at, stream_at};
+ghost use Rattle.messages.specs.declared.call.Call.{Call};
+ghost use Rattle.master_agents.specs.Named.{lost_by};
 ghost use Rattle.names_core.specs.Ids.{Numbered};
 
 use cluster_laws::{masters_stay_in_their_run, named_agents_are_found, refusals_stand_alone};
@@ -20,7 +20,7 @@ use cluster_laws::{masters_stay_in_their_run, named_agents_are_found, refusals_s
 pub fn masters_do_their_steps()
     ensures calls { (c : Cluster) (n : ℕ) (stream : Option Numbered) (call : Call)
         → c.world.run.serves ≡ true → post_at c n ≡ Some (Called stream call)
-        → Does c (Deliver n) c.last_tick (called (master_of c) stream call) }
+        → Does c (Deliver n) c.last_tick (call_effect (master_of c) stream call) }
     ensures rounds { (c : Cluster) (weights : List RoleWeight) → c.weights ≡ weights →
         c.world.run.serves ≡ true → Does c Allocate c.last_tick (allocated weights (master_of c)) }
     ensures ticks { (c : Cluster) (now : ℕ) → c.world.run.serves ≡ true

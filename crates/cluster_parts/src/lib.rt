@@ -17,7 +17,7 @@ mod sends;
 mod serving;
 mod stops;
 
-pub use cluster_agents::{ClusterAgent, Items, Made, place_of};
-pub use masters::Served;
+pub use cluster_agents::{ClusterAgent, Items, StepOutcome, place_of};
+pub use masters::MasterAndChannels;
 pub use opening::{Opened, open_parts};
-pub use parts::Parts;
+pub use parts::ClusterState;

@@ -2,26 +2,20 @@
 
 ghost use Rattle.std.specs.Prelude.{◌≡◌, ◌+◌, ◌≤◌, ◌++◌, ◌∷◌, [], None, length, map, IfOk, OnOk, OnErr};
 ghost use Rattle.cluster_agents.specs.Outcomes.{ends_with};
-ghost use Rattle.cluster_steps.specs.declared.verdict.Verdict.TheVariants as verdicts;
+ghost use Rattle.messages.specs.declared.steps.verdict.Verdict.TheVariants as verdicts;
 ghost use Rattle.cluster_parts.specs.Masters.{Settles, item_to, sent_to, made_of};
 ghost use Rattle.cluster_parts.specs.Posts.{Grows};
 ghost use Rattle.cluster_laws.specs.Runs.{AreRising};
-ghost use Rattle.event_streams.specs.Streams.{received, kept_ids};
+ghost use Rattle.cluster_channels.specs.Streams.{received, kept_ids};
 
-use cluster_agents::{Items, Made, Outgoing, ends_with};
-use cluster_entries::Outputs;
+use cluster_agents::{Items, Outgoing, StepOutcome, ends_with};
+use cluster_channels::{Post, Streams};
 use cluster_laws::Item;
-use cluster_steps::{Sent, Verdict};
-use event_streams::Streams;
-use listed::Listed;
-use mails::ToAgent;
 use master_core::{Master, MasterFault, Outs};
+use messages::{Outputs, Sent, StreamEvent, ToAgent, Verdict};
 use names_core::StreamId;
-use plain_data::Plain;
-use post_rules::Post;
-use scheduler_events::StreamEvent;
-use shared_value::Shared;
 use std::alloc::{AllocError, Global};
+use values::{Listed, Plain, Shared};
 
 /// A mail of the master, as it is written in an entry and stored: one value with two owners.
 fn push_mail(
@@ -69,7 +63,7 @@ fn outgoing_to(alloc: Global, mails: &[ToAgent]) -> Result<Outgoing, AllocError>
 /// What the steps of a master change: the master, all that was sent, the streams,
 /// and the post that delivers what was sent.
 #[derive(Drop)]
-pub struct Served<P: Post> {
+pub struct MasterAndChannels<P: Post> {
     /// None where no master serves.
     pub master: Option<Master>,
     pub items: Items,
@@ -77,7 +71,7 @@ pub struct Served<P: Post> {
     pub post: P,
 }
 
-impl<P: Post> Served<P> {
+impl<P: Post> MasterAndChannels<P> {
     /// Stores what was sent and the events on their streams, or neither where memory is refused.
     fn keep(
         &mut self,
@@ -146,7 +140,7 @@ impl<P: Post> Served<P> {
     }
 
     /// The master's outputs, stored and returned, once the post has room for its mails.
-    fn keep_outputs(&mut self, alloc: Global, outs: Outs) -> Result<Made, AllocError>
+    fn keep_outputs(&mut self, alloc: Global, outs: Outs) -> Result<StepOutcome, AllocError>
         requires { AreRising (kept_ids self.old.streams ++ outs.opened) }
         ensures made { IfOk result (λ made. made ≡ made_of outs) }
         ensures kept { OnOk result (self.new ≡ record self.old {
@@ -159,7 +153,7 @@ impl<P: Post> Served<P> {
         ensures room { OnOk result (length outs.mails ≤ P.room self.new.post) }
     {
         let sent = self.send(alloc, &outs)?;
-        Ok(Made {
+        Ok(StepOutcome {
             verdict: Verdict::Ok,
             outputs: Outputs {
                 events: outs.events,
@@ -172,7 +166,7 @@ impl<P: Post> Served<P> {
     }
 
     /// The master goes down, for want of memory.
-    fn fall(&mut self, alloc: Global) -> Made
+    fn fall(&mut self, alloc: Global) -> StepOutcome
         ensures made { result ≡ ends_with verdicts.OutOfMemory }
         ensures down { self.new ≡ record self.old { master = None } }
     {
@@ -182,7 +176,7 @@ impl<P: Post> Served<P> {
 
     /// Stores the outputs of the master's answer and returns them.
     /// Where memory was refused the master is down, and nothing else changes.
-    pub(crate) fn settle(&mut self, alloc: Global, answer: Result<Outs, MasterFault>) -> Made
+    pub(crate) fn settle(&mut self, alloc: Global, answer: Result<Outs, MasterFault>) -> StepOutcome
         requires { IfOk answer (λ outs. AreRising (kept_ids self.old.streams ++ outs.opened)) }
         ensures settled { Settles answer result self.old.master self.new.master self.old.items
             self.new.items self.old.streams self.new.streams }

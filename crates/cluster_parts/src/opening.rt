@@ -4,45 +4,42 @@ ghost use Rattle.std.specs.Prelude.{◌≡◌, ◌≤◌, ◌++◌, [], length, 
 ghost use Rattle.cluster_parts.specs.Masters.{Settles, StandsFor};
 ghost use Rattle.cluster_agents.specs.Moves.{kept_agents};
 ghost use Rattle.cluster_parts.specs.Opening.{Opens, Starts, up_over};
-ghost use Rattle.cluster_agents.specs.declared.outcomes.Made.{Made as MadeSo};
-ghost use Rattle.agent_sides.specs.declared.config.ConfiguredAgent.{ConfiguredAgent};
+ghost use Rattle.cluster_agents.specs.declared.outcomes.StepOutcome.{StepOutcome as MadeSo};
+ghost use Rattle.master_agents.specs.declared.config.ConfiguredAgent.{ConfiguredAgent};
 ghost use Rattle.cluster_laws.specs.Parts.{AreAgentsOf};
 ghost use Rattle.cluster_laws.specs.Runs.{AreRising};
 ghost use Rattle.cluster_laws.specs.declared.item.Item.{Item};
-ghost use Rattle.role_weights.specs.Weights.{RoleWeight};
+ghost use Rattle.names_core.specs.Weights.{RoleWeight};
 ghost use Rattle.cluster_model.specs.Masters.{Master as ModelMaster};
 ghost use Rattle.cluster_model.specs.Openings.{GoodOpening};
-ghost use Rattle.cluster_histories.specs.Steps.{Setup, open_cluster, opening};
-ghost use Rattle.cluster_steps.specs.declared.verdict.Verdict.TheVariants as verdicts;
-ghost use Rattle.cluster_steps.specs.declared.fault.ClusterFault.TheVariants.{OutOfMemory};
-ghost use Rattle.mails.specs.declared.record.Durable.{Durable as Record};
+ghost use Rattle.cluster_model.specs.Steps.{Setup, open_cluster, opening};
+ghost use Rattle.messages.specs.declared.steps.verdict.Verdict.TheVariants as verdicts;
+ghost use Rattle.messages.specs.declared.steps.fault.ClusterFault.TheVariants.{OutOfMemory};
+ghost use Rattle.messages.specs.declared.record.RecordParts.{RecordParts as Record};
 ghost use Rattle.master_state.specs.declared.fault.MasterFault.{MasterFault as Fault};
 ghost use Rattle.master_state.specs.declared.state.Outs.{Outs as OutsSo};
-ghost use Rattle.event_streams.specs.Streams.{kept_ids};
-ghost use Rattle.event_streams.specs.declared.kept.KeptStream.{KeptStream};
+ghost use Rattle.cluster_channels.specs.Streams.{kept_ids};
+ghost use Rattle.cluster_channels.specs.declared.streams.kept.KeptStream.{KeptStream};
 
-use crate::masters::Served;
+use crate::masters::MasterAndChannels;
 use agent_core::Record;
 use cluster_agents::{ClusterAgent, Items};
-use cluster_entries::Outputs;
+use cluster_channels::{Post, Streams};
 use cluster_laws::{
     fresh_masters_open, masters_begin_with_greetings, masters_leave_agents, opening_items_stand,
 };
 use cluster_safe::masters_step_alone;
-use cluster_steps::{ClusterFault, Verdict};
-use event_streams::Streams;
-use listed::Listed;
 use master_core::{ConfiguredAgents, Master, MasterFault, Outs};
+use messages::{ClusterFault, Outputs, Verdict};
 use names_core::Run;
-use plain_data::Plain;
-use post_rules::Post;
 use std::alloc::{AllocError, Global};
 use std::mem;
+use values::{Listed, Plain};
 
 /// What a cluster has at its opening, and what the opening outputs.
 #[derive(Drop)]
 pub struct Opened<P: Post> {
-    pub served: Served<P>,
+    pub served: MasterAndChannels<P>,
     pub agents: Vec<ClusterAgent>,
     pub outputs: Outputs,
 }
@@ -111,7 +108,7 @@ fn nothing<P: Post>(alloc: Global) -> Opened<P>
     ensures count { P.count P.nothing ≡ 0 }
 {
     Opened {
-        served: Served {
+        served: MasterAndChannels {
             master: None,
             items: Items::new(alloc),
             streams: Streams::new(alloc),

@@ -5,20 +5,19 @@ ghost use Rattle.cluster_agents.specs.Handing.{IsGiven};
 ghost use Rattle.cluster_parts.specs.Parts.{AllMayRefuse, AllTakeBy, AreParts, ArePartsBy, Same};
 ghost use Rattle.cluster_parts.specs.Posts.{Grows};
 
-use crate::masters::Served;
-use cluster_agents::{ClusterAgent, Made};
-use cluster_steps::{ClusterFault, Keep, Step};
+use crate::masters::MasterAndChannels;
+use cluster_agents::{ClusterAgent, StepOutcome};
+use cluster_channels::Post;
 use master_core::ConfiguredAgents;
-use names_core::Run;
-use post_rules::Post;
-use role_weights::Weights;
+use messages::{ClusterFault, Keep, Step};
+use names_core::{Run, Weights};
 use std::alloc::Global;
 
 /// What a cluster is made of at a time.
-pub struct Parts<P: Post> {
+pub struct ClusterState<P: Post> {
     /// The agents as the master is configured with them.
     pub config: ConfiguredAgents,
-    pub served: Served<P>,
+    pub served: MasterAndChannels<P>,
     pub agents: Vec<ClusterAgent>,
     /// The master's run, or the last one's where none serves.
     pub run: Run,
@@ -27,9 +26,9 @@ pub struct Parts<P: Post> {
 }
 
 // By hand: who drops the parts calls this, and the proof visits none of them.
-impl<P: Post + Drop> Drop for Parts<P> {
+impl<P: Post + Drop> Drop for ClusterState<P> {
     fn drop(self) {
-        let Parts {
+        let ClusterState {
             config: _,
             served: _,
             agents: _,
@@ -39,7 +38,7 @@ impl<P: Post + Drop> Drop for Parts<P> {
     }
 }
 
-impl<P: Post> Parts<P> {
+impl<P: Post> ClusterState<P> {
     /// Takes a step; a round of offers uses these weights of roles. The post has room for what the
     /// step sends. Of several refusals the first is returned in the order C8, C2, C3, C4, C5, C1,
     /// C7; C9, for want of memory, may come before any.
@@ -48,7 +47,7 @@ impl<P: Post> Parts<P> {
         alloc: Global,
         weights: &Weights,
         step: &Step,
-    ) -> Result<Made, ClusterFault>
+    ) -> Result<StepOutcome, ClusterFault>
         requires parts { AreParts self.old }
         requires weights { ArePartsBy weights.now self.old }
         ensures made { IfOk result

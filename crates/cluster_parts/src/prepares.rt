@@ -5,21 +5,20 @@ ghost use Rattle.cluster_agents.specs.Causes.{cause_due};
 ghost use Rattle.cluster_agents.specs.Handing.{is_withheld};
 ghost use Rattle.cluster_parts.specs.Handing.{IsNotHanded};
 ghost use Rattle.cluster_parts.specs.Parts.{AllMayRefuse, AllTake, AreParts, Same};
-ghost use Rattle.cluster_steps.specs.declared.step.Step.TheVariants.{Prepare};
+ghost use Rattle.messages.specs.declared.steps.step.Step.TheVariants.{Prepare};
 
-use crate::masters::Served;
-use crate::parts::Parts;
+use crate::masters::MasterAndChannels;
+use crate::parts::ClusterState;
 use crate::places::found_free;
-use cluster_agents::{Made, cause_due, draw, ends_with, is_withheld, prepares_are_made};
+use cluster_agents::{StepOutcome, cause_due, draw, ends_with, is_withheld, prepares_are_made};
+use cluster_channels::Post;
 use cluster_laws::mails_to_agents_come_in_order;
-use cluster_steps::{ClusterFault, StepCause, Verdict};
-use mails::{AgentRefusal, Cause};
+use messages::{AgentRefusal, Cause, ClusterFault, StepCause, Verdict};
 use names_core::AgentName;
-use plain_data::Plain;
-use post_rules::Post;
 use std::alloc::Global;
+use values::Plain;
 
-impl<P: Post> Served<P> {
+impl<P: Post> MasterAndChannels<P> {
     /// The cause that the agent of a name acts on; none where it is a mail for another agent.
     /// It is refused with `C1 NoSuchMail`, where the post can't deliver the mail or it is none to
     /// an agent, and with `C9 OutOfMemory`.
@@ -43,7 +42,7 @@ impl<P: Post> Served<P> {
     }
 }
 
-impl<P: Post> Parts<P> {
+impl<P: Post> ClusterState<P> {
     /// The agent opens a draft of what a cause makes of it, or refuses the cause, or runs out of
     /// memory and is down. It is refused with `C8 NoSuchAgent`, `C3 AgentDown`, `C4 DraftOpen` or
     /// `C1 NoSuchMail` (a mail that the post can't deliver, or that is none to an agent), of
@@ -53,7 +52,7 @@ impl<P: Post> Parts<P> {
         alloc: Global,
         name: &AgentName,
         cause: &StepCause,
-    ) -> Result<Made, ClusterFault>
+    ) -> Result<StepOutcome, ClusterFault>
         requires { AreParts self.old }
         ensures made { IfOk result
             (AllTake self.old (Prepare name.now cause.now) self.new) }

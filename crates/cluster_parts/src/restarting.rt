@@ -8,33 +8,32 @@ ghost use Rattle.cluster_parts.specs.Opening.{Starts};
 ghost use Rattle.cluster_parts.specs.Parts.{AllTake, AreParts};
 ghost use Rattle.cluster_parts.specs.Posts.{Grows};
 ghost use Rattle.cluster_parts.specs.Restarting.{Restarts, run_behind};
-ghost use Rattle.cluster_agents.specs.declared.outcomes.Made.{Made as MadeSo};
-ghost use Rattle.agent_sides.specs.declared.config.ConfiguredAgent.{ConfiguredAgent};
+ghost use Rattle.cluster_agents.specs.declared.outcomes.StepOutcome.{StepOutcome as MadeSo};
+ghost use Rattle.master_agents.specs.declared.config.ConfiguredAgent.{ConfiguredAgent};
 ghost use Rattle.cluster_laws.specs.Parts.{AreAgentsOf};
 ghost use Rattle.cluster_laws.specs.Runs.{AreRising};
 ghost use Rattle.cluster_laws.specs.declared.item.Item.{Item};
-ghost use Rattle.cluster_histories.specs.Clusters.{Cluster};
-ghost use Rattle.cluster_steps.specs.declared.step.Step.TheVariants.{StopMaster};
+ghost use Rattle.cluster_model.specs.Clusters.{Cluster};
+ghost use Rattle.messages.specs.declared.steps.step.Step.TheVariants.{StopMaster};
 ghost use Rattle.cluster_model.specs.Ids.{last_run};
 ghost use Rattle.cluster_model.specs.Masters.{Master as ModelMaster};
-ghost use Rattle.cluster_steps.specs.declared.verdict.Verdict.TheVariants as verdicts;
+ghost use Rattle.messages.specs.declared.steps.verdict.Verdict.TheVariants as verdicts;
 ghost use Rattle.master_state.specs.declared.fault.MasterFault.{MasterFault as Fault};
 ghost use Rattle.master_state.specs.declared.state.Outs.{Outs};
-ghost use Rattle.event_streams.specs.Streams.{kept_ids};
-ghost use Rattle.event_streams.specs.declared.kept.KeptStream.{KeptStream};
+ghost use Rattle.cluster_channels.specs.Streams.{kept_ids};
+ghost use Rattle.cluster_channels.specs.declared.streams.kept.KeptStream.{KeptStream};
 
 use crate::opening::start_in;
-use crate::parts::Parts;
-use cluster_agents::{Made, ends_with};
+use crate::parts::ClusterState;
+use cluster_agents::{StepOutcome, ends_with};
+use cluster_channels::{Post, kept_streams_follow};
 use cluster_laws::{
     fresh_masters_open, masters_begin_with_greetings, masters_leave_agents, sent_items_stand,
     streams_rise,
 };
 use cluster_safe::masters_step_alone;
-use cluster_steps::Verdict;
-use event_streams::kept_streams_follow;
+use messages::Verdict;
 use names_core::Run;
-use post_rules::Post;
 use std::alloc::Global;
 
 /// The last run of a master.
@@ -83,12 +82,12 @@ fn run_behind(run: Run) -> Option<Run>
     }
 }
 
-impl<P: Post> Parts<P> {
+impl<P: Post> ClusterState<P> {
     /// The master stops: every stream closes without an event, and what waits on it can still be
     /// taken. A new one begins the next run, with the agents of the configuration, and sends each a
     /// Hello. After the last run, 65,535, there is none, and none where memory is refused. It is
     /// never refused.
-    pub(crate) fn stop_master(&mut self, alloc: Global) -> Made
+    pub(crate) fn stop_master(&mut self, alloc: Global) -> StepOutcome
         requires { AreParts self.old }
         ensures made { AllTake self.old StopMaster self.new result }
         ensures config { self.new.config ≡ self.old.config }

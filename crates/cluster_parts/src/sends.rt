@@ -9,32 +9,28 @@ ghost use Rattle.cluster_parts.specs.Taking.{MayLackEvent};
 ghost use Rattle.cluster_laws.specs.Items.{StandIn};
 ghost use Rattle.cluster_laws.specs.declared.item.Item.{Item};
 ghost use Rattle.cluster_laws.specs.declared.item.Item.TheVariants as items;
-ghost use Rattle.cluster_histories.specs.Clusters.{Cluster};
-ghost use Rattle.cluster_steps.specs.declared.step.Step.TheVariants.{Send, Take};
+ghost use Rattle.cluster_model.specs.Clusters.{Cluster};
+ghost use Rattle.messages.specs.declared.steps.step.Step.TheVariants.{Send, Take};
 ghost use Rattle.cluster_model.specs.Masters.{Master};
-ghost use Rattle.cluster_steps.specs.declared.verdict.Sent.TheVariants as entries;
-ghost use Rattle.cluster_steps.specs.declared.verdict.Verdict.TheVariants as verdicts;
-ghost use Rattle.cluster_steps.specs.declared.fault.ClusterFault.TheVariants.{NoSuchMail, OutOfMemory};
-ghost use Rattle.scheduler_events.specs.declared.event.Event as sent_event;
-ghost use Rattle.mails.specs.declared.call.Call.{Call};
+ghost use Rattle.messages.specs.declared.steps.verdict.Sent.TheVariants as entries;
+ghost use Rattle.messages.specs.declared.steps.verdict.Verdict.TheVariants as verdicts;
+ghost use Rattle.messages.specs.declared.steps.fault.ClusterFault.TheVariants.{NoSuchMail, OutOfMemory};
+ghost use Rattle.messages.specs.declared.events.event.Event as sent_event;
+ghost use Rattle.messages.specs.declared.call.Call.{Call};
 ghost use Rattle.names_core.specs.Ids.{Numbered};
-ghost use Rattle.event_streams.specs.Kept.{kept_streams};
-ghost use Rattle.event_streams.specs.Streams.{next_on, taken};
+ghost use Rattle.cluster_channels.specs.Kept.{kept_streams};
+ghost use Rattle.cluster_channels.specs.Streams.{next_on, taken};
 
-use crate::parts::Parts;
-use cluster_agents::{Made, made_sending};
-use cluster_entries::Outputs;
+use crate::parts::ClusterState;
+use cluster_agents::{StepOutcome, made_sending};
+use cluster_channels::{
+    Post, Streams, kept_streams_are_found, kept_streams_follow, no_more_is_taken,
+};
 use cluster_laws::{Item, sent_items_stand, streams_rise};
-use cluster_steps::{ClusterFault, Sent, Verdict};
-use event_streams::{Streams, kept_streams_are_found, kept_streams_follow, no_more_is_taken};
-use listed::Listed;
-use mails::Call as SentCall;
+use messages::{Call as SentCall, ClusterFault, Event, Outputs, Sent, StreamEvent, Verdict};
 use names_core::StreamId;
-use plain_data::Plain;
-use post_rules::Post;
-use scheduler_events::{Event, StreamEvent};
-use shared_value::Shared;
 use std::alloc::{AllocError, Global};
+use values::{Listed, Plain, Shared};
 
 /// A call is sent, and the agents are as they were.
 fn sends_are_made()
@@ -97,7 +93,7 @@ fn first_waiting(streams: &Streams, id: StreamId) -> Result<Event, ClusterFault>
     }
 }
 
-impl<P: Post> Parts<P> {
+impl<P: Post> ClusterState<P> {
     /// A framework sends a call, on a stream or on none; the stream may be one that was never
     /// opened. The post has room for the call. It is refused with `C9 OutOfMemory` alone.
     pub(crate) fn send(
@@ -105,7 +101,7 @@ impl<P: Post> Parts<P> {
         alloc: Global,
         stream: Option<StreamId>,
         call: &Shared<SentCall>,
-    ) -> Result<Made, ClusterFault>
+    ) -> Result<StepOutcome, ClusterFault>
         ensures made { IfOk result (AllTake self.old (Send stream call.now) self.new) }
         ensures memory { IfErr result (λ fault. fault ≡ OutOfMemory) }
         ensures unchanged { OnErr result (Same self.old self.new) }
@@ -124,7 +120,7 @@ impl<P: Post> Parts<P> {
 
     /// A framework takes the first event that waits on a stream, of any run.
     /// It is refused with `C1 NoSuchMail` where none waits, and with `C9 OutOfMemory`.
-    pub(crate) fn take(&mut self, alloc: Global, id: StreamId) -> Result<Made, ClusterFault>
+    pub(crate) fn take(&mut self, alloc: Global, id: StreamId) -> Result<StepOutcome, ClusterFault>
         ensures made { IfOk result (AllTake self.old (Take id) self.new) }
         ensures refused { IfErr result (AllRefuse self.old (Take id)) }
         ensures unchanged { OnErr result (Same self.old self.new) }
@@ -136,7 +132,7 @@ impl<P: Post> Parts<P> {
         let event = first_waiting(&self.served.streams, id)?;
         let outputs = taking(alloc, id, event)?;
         match self.served.streams.take(id) {
-            Some(_) => Ok(Made {
+            Some(_) => Ok(StepOutcome {
                 verdict: Verdict::Ok,
                 outputs,
                 durable: None,

@@ -6,19 +6,16 @@ ghost use Rattle.cluster_agents.specs.Causes.{item_at};
 ghost use Rattle.cluster_parts.specs.Parts.{AllRefuse, AllTake, AllTakeBy, AreParts, ArePartsBy, Same};
 ghost use Rattle.cluster_parts.specs.Posts.{Grows};
 ghost use Rattle.cluster_laws.specs.declared.item.Item.TheVariants as sent;
-ghost use Rattle.cluster_steps.specs.declared.step.Step.TheVariants.{Allocate, Deliver, HangUp, LoseAgent, Tick};
+ghost use Rattle.messages.specs.declared.steps.step.Step.TheVariants.{Allocate, Deliver, HangUp, LoseAgent, Tick};
 
 use crate::doings::masters_do_their_steps;
 use crate::master_laws::answers_are_made;
-use crate::parts::Parts;
-use cluster_agents::{ClusterAgent, Made, place_of};
+use crate::parts::ClusterState;
+use cluster_agents::{ClusterAgent, StepOutcome, place_of};
+use cluster_channels::{Post, kept_streams_are_found};
 use cluster_laws::items_are_posts;
-use cluster_steps::ClusterFault;
-use event_streams::kept_streams_are_found;
-use mails::Call;
-use names_core::{AgentName, StreamId};
-use post_rules::Post;
-use role_weights::Weights;
+use messages::{Call, ClusterFault};
+use names_core::{AgentName, StreamId, Weights};
 use std::alloc::Global;
 
 /// Whether an agent of this name is configured.
@@ -28,7 +25,7 @@ fn is_known(agents: &[ClusterAgent], name: &AgentName) -> bool
     place_of(agents, name).is_some()
 }
 
-impl<P: Post> Parts<P> {
+impl<P: Post> ClusterState<P> {
     /// The master makes a round of offers by the weights of roles. It is refused with
     /// `C2 MasterDown` where no master serves. A master that runs out of memory in the step is
     /// down.
@@ -36,7 +33,7 @@ impl<P: Post> Parts<P> {
         &mut self,
         alloc: Global,
         weights: &Weights,
-    ) -> Result<Made, ClusterFault>
+    ) -> Result<StepOutcome, ClusterFault>
         requires { ArePartsBy weights.now self.old }
         ensures made { IfOk result (AllTakeBy weights.now self.old Allocate self.new) }
         ensures refused { IfErr result (AllRefuse self.old Allocate) }
@@ -58,7 +55,7 @@ impl<P: Post> Parts<P> {
     /// The master's moment is this one, in seconds. It is refused with `C2 MasterDown` where no
     /// master serves, else with `C7 TimeBack` where it is before the last one. A master that runs
     /// out of memory in the step is down.
-    pub(crate) fn tick(&mut self, alloc: Global, now: u32) -> Result<Made, ClusterFault>
+    pub(crate) fn tick(&mut self, alloc: Global, now: u32) -> Result<StepOutcome, ClusterFault>
         requires { AreParts self.old }
         ensures made { IfOk result (AllTake self.old (Tick now) self.new) }
         ensures refused { IfErr result (AllRefuse self.old (Tick now)) }
@@ -88,7 +85,7 @@ impl<P: Post> Parts<P> {
         number: u64,
         stream: Option<StreamId>,
         call: Call,
-    ) -> Result<Made, ClusterFault>
+    ) -> Result<StepOutcome, ClusterFault>
         requires parts { AreParts self.old }
         requires sent { item_at number self.old.served.items ≡ Some (sent.Call stream call) }
         ensures made { IfOk result (AllTake self.old (Deliver number) self.new) }
@@ -112,7 +109,11 @@ impl<P: Post> Parts<P> {
     /// A framework hangs a stream up. It is refused with `C2 MasterDown` where no master serves,
     /// else with `C1 NoSuchMail` where the stream was never opened. A master that runs out of
     /// memory in the step is down.
-    pub(crate) fn hang_up(&mut self, alloc: Global, id: StreamId) -> Result<Made, ClusterFault>
+    pub(crate) fn hang_up(
+        &mut self,
+        alloc: Global,
+        id: StreamId,
+    ) -> Result<StepOutcome, ClusterFault>
         requires { AreParts self.old }
         ensures made { IfOk result (AllTake self.old (HangUp id) self.new) }
         ensures refused { IfErr result (AllRefuse self.old (HangUp id)) }
@@ -142,7 +143,7 @@ impl<P: Post> Parts<P> {
         &mut self,
         alloc: Global,
         name: &AgentName,
-    ) -> Result<Made, ClusterFault>
+    ) -> Result<StepOutcome, ClusterFault>
         requires { AreParts self.old }
         ensures made { IfOk result (AllTake self.old (LoseAgent name.now) self.new) }
         ensures refused { IfErr result (AllRefuse self.old (LoseAgent name.now)) }

@@ -2,24 +2,24 @@
 
 ghost use Rattle.std.specs.Prelude.{◌≡◌, IfOk, IfErr, OnErr};
 ghost use Rattle.cluster_parts.specs.Parts.{AllRefuse, AllTake, Same};
-ghost use Rattle.cluster_steps.specs.declared.step.Step.TheVariants.{StopAgent};
-ghost use Rattle.cluster_steps.specs.declared.step.Keep.TheVariants.{After, Before};
+ghost use Rattle.messages.specs.declared.steps.step.Step.TheVariants.{StopAgent};
+ghost use Rattle.messages.specs.declared.steps.step.Keep.TheVariants.{After, Before};
 
-use crate::parts::Parts;
-use cluster_agents::{Made, ends_with, found, stops_are_made};
-use cluster_steps::{ClusterFault, Verdict};
+use crate::parts::ClusterState;
+use cluster_agents::{StepOutcome, ends_with, found, stops_are_made};
+use cluster_channels::Post;
+use messages::{ClusterFault, Verdict};
 use names_core::AgentName;
-use post_rules::Post;
 use std::alloc::Global;
 
-impl<P: Post> Parts<P> {
+impl<P: Post> ClusterState<P> {
     /// The agent stops, and is up again over its record; an open draft is dropped.
     /// It is refused with `C8 NoSuchAgent` alone.
     pub(crate) fn stop_before(
         &mut self,
         alloc: Global,
         name: &AgentName,
-    ) -> Result<Made, ClusterFault>
+    ) -> Result<StepOutcome, ClusterFault>
         ensures made { IfOk result (AllTake self.old (StopAgent name.now Before) self.new) }
         ensures refused { IfErr result (AllRefuse self.old (StopAgent name.now Before)) }
         ensures unchanged { OnErr result (Same self.old self.new) }
@@ -39,7 +39,7 @@ impl<P: Post> Parts<P> {
         &mut self,
         alloc: Global,
         name: &AgentName,
-    ) -> Result<Made, ClusterFault>
+    ) -> Result<StepOutcome, ClusterFault>
         ensures made { IfOk result (AllTake self.old (StopAgent name.now After) self.new) }
         ensures refused { IfErr result (AllRefuse self.old (StopAgent name.now After)) }
         ensures unchanged { OnErr result (Same self.old self.new) }

@@ -5,10 +5,10 @@ use Rattle.std.proofs.lemmas.Bool.{cond_both, cond-true, and_from}
 use Rattle.names_core.specs.Ids.{Numbered, same}
 use Rattle.quantity.specs.declared.rows.Row.{Row}
 use Rattle.quantity.specs.Rows.{covers}
-use Rattle.mails.specs.declared.task.Job.{Job}
-use Rattle.mails.specs.declared.mail.Command.{Command}
-use Rattle.mails.specs.declared.mail.Command.TheVariants.{Launch}
-use Rattle.mails.specs.declared.call.TaskInfo.{TaskInfo}
+use Rattle.messages.specs.declared.task.Job.{Job}
+use Rattle.messages.specs.declared.mail.Command.{Command}
+use Rattle.messages.specs.declared.mail.Command.TheVariants.{Launch}
+use Rattle.messages.specs.declared.call.TaskInfo.{TaskInfo}
 use Rattle.names_core.specs.declared.state.TaskState.TheVariants.{Error}
 use Rattle.cluster_model.specs.Ids.{following, is_empty}
 use Rattle.cluster_model.specs.Sides.{Run, Side, Sending, sends_nothing, issue, may_launch, books, Launching, launch_one}

@@ -3,27 +3,27 @@ use Rattle.std.proofs.Common.{◌≡◌, ℕ, suc, ◌≤◌, Bool, true, false,
 use Rattle.std.specs.Prelude.{⊤, if◌then◌else◌}
 use Rattle.std.specs.List.{AllByRecursion as Each, find, list_any}
 use Rattle.std.proofs.lemmas.Bool.{cond_both}
-use Rattle.mails.specs.declared.call.Call.TheVariants.{Subscribe, Teardown, Accept, Decline, Revive, Suppress, Acknowledge, Reconcile}
-use Rattle.mails.specs.declared.call.Call.TheVariants as calls
-use Rattle.mails.specs.declared.refusal.MasterRefusal.TheVariants.{OtherRun, OldSession, Closed, NotOpen, NotSubscribed, WrongStream, NoSuchFramework, LimitExceeded}
+use Rattle.messages.specs.declared.call.Call.TheVariants.{Subscribe, Teardown, Accept, Decline, Revive, Suppress, Acknowledge, Reconcile}
+use Rattle.messages.specs.declared.call.Call.TheVariants as calls
+use Rattle.messages.specs.declared.refusal.MasterRefusal.TheVariants.{OtherRun, OldSession, Closed, NotOpen, NotSubscribed, WrongStream, NoSuchFramework, LimitExceeded}
 use Rattle.names_core.specs.Ids.{Numbered}
-use Rattle.mails.specs.declared.task.Job.{Job}
-use Rattle.mails.specs.declared.task.Offer.{Offer}
-use Rattle.mails.specs.declared.mail.AgentMail.{AgentMail}
-use Rattle.mails.specs.declared.mail.AgentMail.TheVariants.{Report, Applied, Update}
-use Rattle.mails.specs.declared.refusal.MasterRefusal.{MasterRefusal}
-use Rattle.mails.specs.declared.call.Call.{Call}
-use Rattle.mails.specs.declared.call.ReconciledTask.{ReconciledTask}
-use Rattle.role_weights.specs.Weights.{RoleWeight}
+use Rattle.messages.specs.declared.task.Job.{Job}
+use Rattle.messages.specs.declared.task.Offer.{Offer}
+use Rattle.messages.specs.declared.mail.AgentMail.{AgentMail}
+use Rattle.messages.specs.declared.mail.AgentMail.TheVariants.{Report, Applied, Update}
+use Rattle.messages.specs.declared.refusal.MasterRefusal.{MasterRefusal}
+use Rattle.messages.specs.declared.call.Call.{Call}
+use Rattle.messages.specs.declared.call.ReconciledTask.{ReconciledTask}
+use Rattle.names_core.specs.Weights.{RoleWeight}
 use Rattle.cluster_model.specs.Ids.{is_among, last_number}
 use Rattle.cluster_model.specs.Sides.{Run, Side, offer_rows, sends_nothing, Launching, launch_all, is_named, is_good, used_offers, without_used, accepted, last_session, opens, shut, SideStep, MakeOffer, Withdraw, LaunchFrom, SendKill, SendAck, SendEnd, SendHello, SendAgain, Lose}
 use Rattle.cluster_model.specs.Channels.{Channel, ChannelStep, ByMaster, Receive, ByAgent, happens, World, Happening, At, TearDown, Restart, Halt, behind, in_front, at_agent, with_side, after, after_all}
 use Rattle.cluster_model.specs.Events.{MadeOffer, Failure}
-use Rattle.cluster_model.specs.Masters.{Framework, Master, Move, AtSide, TearDownAll, RestartAll, HaltAll, Doing, nothing, refused, saying, moving, framework_of, is_torn, with_framework, events_to_all, Placed, all_booked, held, is_of, withdraws_on, withdraws, without_filters_on, side_of, has_numbers, may_have_numbers}
-use Rattle.cluster_model.specs.Calls.{frameworks_limit, to_list, subscribed, removed, resubscribed, is_unassigned, sides_with_tasks, on_teardown, answers_held, Given, good_side, given_by, Accepting, accepts_all, passes_limits, accepted_as, accepted_from, on_accept, on_decline, on_revive, on_suppress, commanding, on_kill, is_last_received, on_acknowledge, on_reconcile, is_stream, on_its_stream, by_known, called}
-use Rattle.cluster_model.specs.Mails.{judged, rescinds, loses, is_to_end, session_opens, goes_with, mailed_as, mailed, ticks, ticked, agent_lost, hung_up_by, hung_up}
+use Rattle.cluster_model.specs.Masters.{Framework, Master, Move, AtSide, TearDownAll, RestartAll, HaltAll, MasterEffect, nothing, refused, saying, moving, framework_of, is_torn, with_framework, events_to_all, Placed, all_booked, held, is_of, withdraws_on, withdraws, without_filters_on, side_of, has_numbers, may_have_numbers}
+use Rattle.cluster_model.specs.Calls.{frameworks_limit, to_list, subscribed, removed, resubscribed, is_unassigned, sides_with_tasks, on_teardown, answers_held, Given, good_side, given_by, Accepting, accepts_all, passes_limits, accepted_as, accepted_from, on_accept, on_decline, on_revive, on_suppress, commanding, on_kill, is_last_received, on_acknowledge, on_reconcile, is_stream, on_its_stream, by_known, call_effect}
+use Rattle.cluster_model.specs.Mails.{judged, rescinds, loses, is_to_end, session_opens, goes_with, mailed_as, mail_effect, ticks, ticked, agent_lost, hung_up_by, hung_up}
 use Rattle.cluster_model.specs.Rounds.{round, allocated}
-use Rattle.cluster_histories.specs.Steps.{happening_of}
+use Rattle.cluster_model.specs.Steps.{happening_of}
 use Rattle.cluster_safe.specs.Origin.{launched}
 use Rattle.cluster_safe.proofs.Orders.{each_append}
 use Rattle.cluster_safe.proofs.Told.{Carried, SendingTold, StepTold, happens_told, shut_told}
@@ -124,11 +124,11 @@ withdraws_ok A n test m = mapped_ok A n (withdraws_on test) (λ s. tt) m.sides
 commanding_ok : (A : Numbered → ℕ → Type 0) (n : ℕ) (m : Master) (s : Option Side) (order : Move) → MoveOk A n order → Each (MoveOk A n) (commanding m s order).moves
 commanding_ok A n m s order ok = cond_both (may_have_numbers 1 s) (moving m (order ∷ [])) (refused m LimitExceeded) (λ d. Each (MoveOk A n) d.moves) (λ e. (ok, tt)) (λ e. tt)
 
-stream_ok : (A : Numbered → ℕ → Type 0) (n : ℕ) (m : Master) (stream o : Option Numbered) (d : Doing) → Each (MoveOk A n) d.moves → Each (MoveOk A n) (on_its_stream m stream o d).moves
+stream_ok : (A : Numbered → ℕ → Type 0) (n : ℕ) (m : Master) (stream o : Option Numbered) (d : MasterEffect) → Each (MoveOk A n) d.moves → Each (MoveOk A n) (on_its_stream m stream o d).moves
 stream_ok A n m stream None d h = tt
 stream_ok A n m stream (Some s) d h = cond_both (is_stream s stream) d (refused m WrongStream) (λ d. Each (MoveOk A n) d.moves) (λ e. h) (λ e. tt)
 
-known_ok : (A : Numbered → ℕ → Type 0) (n : ℕ) (m : Master) (stream : Option Numbered) (o : Option Framework) (doing : Framework → Doing) → ((f : Framework) → o ≡ Some f → Each (MoveOk A n) (doing f).moves) → Each (MoveOk A n) (by_known m stream o doing).moves
+known_ok : (A : Numbered → ℕ → Type 0) (n : ℕ) (m : Master) (stream : Option Numbered) (o : Option Framework) (doing : Framework → MasterEffect) → ((f : Framework) → o ≡ Some f → Each (MoveOk A n) (doing f).moves) → Each (MoveOk A n) (by_known m stream o doing).moves
 known_ok A n m stream None doing h = tt
 known_ok A n m stream (Some f) doing h = cond_both (is_torn m f.id) (refused m NoSuchFramework) (on_its_stream m stream f.stream (doing f)) (λ d. Each (MoveOk A n) d.moves) (λ e. tt) (λ e. stream_ok A n m stream f.stream (doing f) (h f refl))
 
@@ -136,7 +136,7 @@ resubscribed_ok : (A : Numbered → ℕ → Type 0) (n : ℕ) (m : Master) (id :
 resubscribed_ok A n m id role None = cond_both (nat_le frameworks_limit (length m.registers.frameworks)) (refused m LimitExceeded) (subscribed m m.registers id role None) (λ d. Each (MoveOk A n) d.moves) (λ e. tt) (λ e. withdraws_ok A n (is_of id) m)
 resubscribed_ok A n m id role (Some f) = withdraws_ok A n (is_of id) m
 
-if_ok : (A : Numbered → ℕ → Type 0) (n : ℕ) (b : Bool) (x y : Doing) → Each (MoveOk A n) x.moves → Each (MoveOk A n) y.moves → Each (MoveOk A n) (if b then x else y).moves
+if_ok : (A : Numbered → ℕ → Type 0) (n : ℕ) (b : Bool) (x y : MasterEffect) → Each (MoveOk A n) x.moves → Each (MoveOk A n) y.moves → Each (MoveOk A n) (if b then x else y).moves
 if_ok A n true x y h k = h
 if_ok A n false x y h k = k
 
@@ -144,7 +144,7 @@ teardown_ok : (A : Numbered → ℕ → Type 0) (n : ℕ) (m : Master) (f : Fram
 teardown_ok A n m f = cond_both (list_any (λ s. not (has_numbers 1 s)) (sides_with_tasks m f.id)) (refused m LimitExceeded) torn (λ d. Each (MoveOk A n) d.moves) (λ e. tt)
     (λ e. each_append (MoveOk A n) (withdraws (is_of f.id) m) (TearDownAll f.id ∷ map (λ s. AtSide s.name (SendEnd f.id)) (sides_with_tasks m f.id)) (withdraws_ok A n (is_of f.id) m) (tt, mapped_ok A n (λ (s : Side). AtSide s.name (SendEnd f.id)) (λ s. tt) (sides_with_tasks m f.id)))
   where
-    torn : Doing
+    torn : MasterEffect
     torn = record { refusal = None; moves = withdraws (is_of f.id) m ++ TearDownAll f.id ∷ map (λ s. AtSide s.name (SendEnd f.id)) (sides_with_tasks m f.id); events = []; opens = []; closes = to_list f.stream; registers = with_framework m.registers (record f { stream = None }) }
 
 accepted_ok : (A : Numbered → ℕ → Type 0) (n : ℕ) (m : Master) (f : Framework) (ids : List Numbered) (seconds : ℕ) (g : Option Given) (x : Accepting) → f.id.run ≤ n → Each (MoveOk A n) (accepted_as m f ids seconds g x).moves
@@ -165,7 +165,7 @@ CallOk A n m (Acknowledge framework agent task uuid) = (f : Framework) → frame
 CallOk A n m (Accept framework offers tasks seconds) = (f : Framework) → framework_of m framework ≡ Some f → f.id.run ≤ n
 CallOk A n m call = ⊤
 
-pub called_ok : (A : Numbered → ℕ → Type 0) (n : ℕ) (m : Master) (stream : Option Numbered) (call : Call) → CallOk A n m call → Each (MoveOk A n) (called m stream call).moves
+pub called_ok : (A : Numbered → ℕ → Type 0) (n : ℕ) (m : Master) (stream : Option Numbered) (call : Call) → CallOk A n m call → Each (MoveOk A n) (call_effect m stream call).moves
 called_ok A n m stream (Subscribe None role) h = if_ok A n (nat_le frameworks_limit (length m.registers.frameworks) || nat_le last_number m.registers.last_framework || nat_le last_number m.registers.last_stream) (refused m LimitExceeded) (subscribed m (record m.registers { last_framework = suc m.registers.last_framework }) (record { run = m.run.number; n = suc m.registers.last_framework }) role None) tt (withdraws_ok A n (is_of (record { run = m.run.number; n = suc m.registers.last_framework })) m)
 called_ok A n m stream (Subscribe (Some id) role) h = if_ok A n (is_unassigned m id) (refused m NoSuchFramework) (if nat_le last_number m.registers.last_stream then refused m LimitExceeded else (if is_torn m id then removed m else resubscribed m id role (framework_of m id))) tt
     (if_ok A n (nat_le last_number m.registers.last_stream) (refused m LimitExceeded) (if is_torn m id then removed m else resubscribed m id role (framework_of m id)) tt (if_ok A n (is_torn m id) (removed m) (resubscribed m id role (framework_of m id)) tt (resubscribed_ok A n m id role (framework_of m id))))
@@ -200,7 +200,7 @@ mailed_as_ok A n m s mail (Some refusal) = refusal_ok refusal
     refusal_ok NoSuchFramework = (tt, tt)
     refusal_ok LimitExceeded = (tt, tt)
 
-pub mailed_ok : (A : Numbered → ℕ → Type 0) (n : ℕ) (m : Master) (s : Side) (mail : AgentMail) → Each (MoveOk A n) (mailed m s mail).moves
+pub mailed_ok : (A : Numbered → ℕ → Type 0) (n : ℕ) (m : Master) (s : Side) (mail : AgentMail) → Each (MoveOk A n) (mail_effect m s mail).moves
 mailed_ok A n m s mail = mailed_as_ok A n m s mail (judged m.run s mail)
 
 pub ticked_ok : (A : Numbered → ℕ → Type 0) (n : ℕ) (m : Master) (now : ℕ) → Each (MoveOk A n) (ticked m now).moves

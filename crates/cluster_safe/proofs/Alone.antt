@@ -5,19 +5,19 @@ use Rattle.std.specs.List.{find}
 use Rattle.std.proofs.lemmas.Bool.{cond_both}
 use Rattle.std.proofs.lemmas.List.{map-append}
 use Rattle.std.specs.Cmp.Lexicographic.{bytes_decides}
-use Rattle.mails.specs.declared.mail.Command.TheVariants.{Kill, Ack, EndFramework}
-use Rattle.mails.specs.declared.mail.MasterMail.{MasterMail}
-use Rattle.mails.specs.declared.mail.AgentMail.{AgentMail}
-use Rattle.mails.specs.declared.mail.ToAgent.{ToAgent}
+use Rattle.messages.specs.declared.mail.Command.TheVariants.{Kill, Ack, EndFramework}
+use Rattle.messages.specs.declared.mail.MasterMail.{MasterMail}
+use Rattle.messages.specs.declared.mail.AgentMail.{AgentMail}
+use Rattle.messages.specs.declared.mail.ToAgent.{ToAgent}
 use Rattle.cluster_model.specs.Ids.{following, is_among}
 use Rattle.cluster_model.specs.Sides.{Run, Side, torn_down, offer_rows, sends_nothing, issue, launch_all, is_good, used_offers, without_used, may_offer, shut, halted, restarted, SideStep, MakeOffer, Withdraw, LaunchFrom, SendKill, SendAck, SendEnd, SendHello, SendAgain, Lose, side_step}
 use Rattle.cluster_model.specs.Channels.{Channel, ByMaster, Receive, by_master, World, At, at_agent, with_side, after, after_all}
-use Rattle.cluster_model.specs.Masters.{Move, AtSide, TearDownAll, RestartAll, HaltAll, Doing, Moved, at_side, move, move_all, unmoved, moved, after_doing}
+use Rattle.cluster_model.specs.Masters.{Move, AtSide, TearDownAll, RestartAll, HaltAll, MasterEffect, Moved, at_side, move, move_all, unmoved, moved, after_doing}
 use Rattle.cluster_model.specs.Mails.{receive_at, having_received}
-use Rattle.cluster_histories.specs.Clusters.{Cluster, sides_of, master_of}
-use Rattle.cluster_steps.specs.declared.verdict.Sent.{Sent}
-use Rattle.cluster_steps.specs.declared.verdict.Sent.TheVariants.{ToAgent as MailToAgent}
-use Rattle.cluster_histories.specs.Steps.{sent_in, sent_between, sent_by, done, happening_of, effect_of, channel_of}
+use Rattle.cluster_model.specs.Clusters.{Cluster, sides_of, master_of}
+use Rattle.messages.specs.declared.steps.verdict.Sent.{Sent}
+use Rattle.messages.specs.declared.steps.verdict.Sent.TheVariants.{ToAgent as MailToAgent}
+use Rattle.cluster_model.specs.Steps.{sent_in, sent_between, sent_by, done, happening_of, effect_of, channel_of}
 use Rattle.cluster_safe.proofs.Origins.{untouched_issue, untouched_all}
 
 -- sides
@@ -126,11 +126,11 @@ all_alike (m ∷ ms) w sent =
     )
 
 -- the master after a step is the one that its own moves make
-pub master_alone : (c : Cluster) (d : Doing) → master_of (done c (effect_of [] d)).after ≡ after_doing (master_of c) d
+pub master_alone : (c : Cluster) (d : MasterEffect) → master_of (done c (effect_of [] d)).after ≡ after_doing (master_of c) d
 master_alone c d = let all = all_alike d.moves c.world [] in ap (λ (x : Moved). record { run = x.run; sides = x.sides; registers = d.registers }) (sym all.1)
 
 -- and so are the mails of its entry
-pub mails_alone : (c : Cluster) (d : Doing) → (done c (effect_of [] d)).outputs.sent ≡ map MailToAgent (moved (master_of c) d.moves).sent
+pub mails_alone : (c : Cluster) (d : MasterEffect) → (done c (effect_of [] d)).outputs.sent ≡ map MailToAgent (moved (master_of c) d.moves).sent
 mails_alone c d = let all = all_alike d.moves c.world [] in all.2 ∙ ap (λ (x : Moved). map MailToAgent x.sent) (sym all.1)
 
 -- a mail that a side hears
@@ -151,7 +151,7 @@ receive_alone agent place run mail (c ∷ cs) x f e = by (bytes_eq c.side.name a
     by false d g rest = let r = rest (rw d at g) in rw d (r.0, ap (λ ss. c.side ∷ ss) r.1, ap (λ xs. xs ++ sent_between cs (at_agent agent (Receive place) run cs).channels) (none_in c) ∙ r.2)
 
 -- the master after it hears a mail: its side has heard it, and then it moves
-pub receives_alone : (c : Cluster) (agent : List ℕ) (place : ℕ) (x : Channel) (mail : AgentMail) (d : Doing) → channel_of c agent ≡ Some x → slice_get x.to_master place ≡ Some mail →
+pub receives_alone : (c : Cluster) (agent : List ℕ) (place : ℕ) (x : Channel) (mail : AgentMail) (d : MasterEffect) → channel_of c agent ≡ Some x → slice_get x.to_master place ≡ Some mail →
     (master_of (done c (effect_of (At agent (Receive place) ∷ []) d)).after ≡ after_doing (having_received (master_of c) agent mail) d) ×
     ((done c (effect_of (At agent (Receive place) ∷ []) d)).outputs.sent ≡ map MailToAgent (moved (having_received (master_of c) agent mail) d.moves).sent)
 receives_alone c agent place x mail d f e = (

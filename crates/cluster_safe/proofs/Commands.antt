@@ -3,10 +3,10 @@ use Rattle.std.proofs.Common.{◌≡◌, ◌≢◌, ℕ, suc, zero, ◌<◌, tru
 use Rattle.std.proofs.lemmas.Bool.{cases_Bool}
 use Rattle.std.specs.List.{AllByRecursion as Each}
 use Rattle.names_core.specs.Ids.{Numbered, same}
-use Rattle.mails.specs.declared.mail.Command.{Command}
-use Rattle.mails.specs.declared.mail.Command.TheVariants.{Launch, Kill, Ack, EndFramework}
+use Rattle.messages.specs.declared.mail.Command.{Command}
+use Rattle.messages.specs.declared.mail.Command.TheVariants.{Launch, Kill, Ack, EndFramework}
 use Rattle.cluster_model.specs.Ids.{is_among}
-use Rattle.cluster_safe.specs.Facts.{Stake, Fades, launches, NotOf, EndsKept, Ordered, EndsTorn}
+use Rattle.cluster_safe.specs.Facts.{TaskInFlight, Fades, launches, NotOf, EndsKept, Ordered, EndsTorn}
 use Rattle.cluster_safe.proofs.Orders.{each_append, jobs_faded}
 
 pub drop_get : (ws : List Command) (n : ℕ) (w : Command) → slice_get ws n ≡ Some w → drop n ws ≡ w ∷ drop (suc n) ws
@@ -19,12 +19,12 @@ get_length [] n w h = absurd cc
 get_length (v ∷ ws) zero w h = omega arith
 get_length (v ∷ ws) (suc n) w h = omega (arith, get_length ws n w h)
 
-pub get_more : (ws us : List Command) (n : ℕ) (w : Command) → slice_get ws n ≡ Some w → slice_get (ws ++ us) n ≡ Some w
+pub get_more : {A : Type 0} (ws us : List A) (n : ℕ) (w : A) → slice_get ws n ≡ Some w → slice_get (ws ++ us) n ≡ Some w
 get_more [] us n w h = absurd cc
 get_more (v ∷ ws) us zero w h = h
 get_more (v ∷ ws) us (suc n) w h = get_more ws us n w h
 
-pub get_push : (ws : List Command) (w : Command) → slice_get (ws ++ w ∷ []) (length ws) ≡ Some w
+pub get_push : {A : Type 0} (ws : List A) (w : A) → slice_get (ws ++ w ∷ []) (length ws) ≡ Some w
 get_push [] w = refl
 get_push (v ∷ ws) w = get_push ws w
 
@@ -44,10 +44,10 @@ ordered_drop (suc n) (Ack key k ∷ ws) h = ordered_drop n ws h
 ordered_drop (suc n) (EndFramework framework ∷ ws) h = ordered_drop n ws h.1
 
 -- no job is of a framework that was torn down
-abbrev pub NotTorn : List Numbered → List Stake → Type 0
+abbrev pub NotTorn : List Numbered → List TaskInFlight → Type 0
 NotTorn torn ss = Each (λ s. is_among torn s.job.framework ≡ false) ss
 
-pub not_of_torn : (torn : List Numbered) (framework : Numbered) (ss : List Stake) → is_among torn framework ≡ true → NotTorn torn ss → NotOf framework ss
+pub not_of_torn : (torn : List Numbered) (framework : Numbered) (ss : List TaskInFlight) → is_among torn framework ≡ true → NotTorn torn ss → NotOf framework ss
 not_of_torn torn framework [] h k = tt
 not_of_torn torn framework (s ∷ ss) h k = (differ, not_of_torn torn framework ss h k.1)
   where
@@ -80,14 +80,14 @@ ends_torn_wider f torn (Kill key ∷ ws) h = ends_torn_wider f torn ws h
 ends_torn_wider f torn (Ack key i ∷ ws) h = ends_torn_wider f torn ws h
 ends_torn_wider f torn (EndFramework framework ∷ ws) h = (among_more f torn framework h.0, ends_torn_wider f torn ws h.1)
 
-pub ends_faded : (ws : List Command) (xs ys : List Stake) → Fades xs ys → EndsKept ws ys → EndsKept ws xs
+pub ends_faded : (ws : List Command) (xs ys : List TaskInFlight) → Fades xs ys → EndsKept ws ys → EndsKept ws xs
 ends_faded [] xs ys f h = tt
 ends_faded (Launch job offers ∷ ws) xs ys f h = ends_faded ws xs ys f h
 ends_faded (Kill key ∷ ws) xs ys f h = ends_faded ws xs ys f h
 ends_faded (Ack key k ∷ ws) xs ys f h = ends_faded ws xs ys f h
 ends_faded (EndFramework framework ∷ ws) xs ys f h = (jobs_faded (λ j. j.framework ≢ framework) xs ys f h.0, ends_faded ws xs ys f h.1)
 
-pub ends_drop : (n : ℕ) (ws : List Command) (ss : List Stake) → EndsKept ws ss → EndsKept (drop n ws) ss
+pub ends_drop : (n : ℕ) (ws : List Command) (ss : List TaskInFlight) → EndsKept ws ss → EndsKept (drop n ws) ss
 ends_drop zero ws ss h = h
 ends_drop (suc n) [] ss h = h
 ends_drop (suc n) (Launch job offers ∷ ws) ss h = ends_drop n ws ss h
@@ -95,7 +95,7 @@ ends_drop (suc n) (Kill key ∷ ws) ss h = ends_drop n ws ss h
 ends_drop (suc n) (Ack key k ∷ ws) ss h = ends_drop n ws ss h
 ends_drop (suc n) (EndFramework framework ∷ ws) ss h = ends_drop n ws ss h.1
 
-pub ends_take_more : (n : ℕ) (ws : List Command) (w : Command) (ss : List Stake) → slice_get ws n ≡ Some w → EndsKept (take n ws) ss → EndsKept (w ∷ []) ss → EndsKept (take (suc n) ws) ss
+pub ends_take_more : (n : ℕ) (ws : List Command) (w : Command) (ss : List TaskInFlight) → slice_get ws n ≡ Some w → EndsKept (take n ws) ss → EndsKept (w ∷ []) ss → EndsKept (take (suc n) ws) ss
 ends_take_more n [] w ss e h k = absurd cc
 ends_take_more zero (v ∷ ws) w ss e h k = let same : w ≡ v = cc in subst (λ u. EndsKept (u ∷ []) ss) same k
 ends_take_more (suc n) (Launch job offers ∷ ws) w ss e h k = ends_take_more n ws w ss e h k
@@ -104,7 +104,7 @@ ends_take_more (suc n) (Ack key i ∷ ws) w ss e h k = ends_take_more n ws w ss 
 ends_take_more (suc n) (EndFramework framework ∷ ws) w ss e h k = (h.0, ends_take_more n ws w ss e h.1 k)
 
 -- more stakes that are of no framework that was torn down
-pub ends_grown : (torn : List Numbered) (n : ℕ) (ws : List Command) (xs new : List Stake) → EndsTorn torn ws → NotTorn torn new → EndsKept (take n ws) xs → EndsKept (take n ws) (xs ++ new)
+pub ends_grown : (torn : List Numbered) (n : ℕ) (ws : List Command) (xs new : List TaskInFlight) → EndsTorn torn ws → NotTorn torn new → EndsKept (take n ws) xs → EndsKept (take n ws) (xs ++ new)
 ends_grown torn zero ws xs new t k h = h
 ends_grown torn (suc n) [] xs new t k h = h
 ends_grown torn (suc n) (Launch job offers ∷ ws) xs new t k h = ends_grown torn n ws xs new t k h

@@ -5,7 +5,7 @@ use Rattle.std.proofs.lemmas.Bool.{cond_both}
 use Rattle.std.proofs.lemmas.Bool.Decides.{nat_tests}
 use Rattle.names_core.specs.Ids.{Numbered, same}
 use Rattle.names_core.specs.declared.state.TaskState.{TaskState}
-use Rattle.mails.specs.declared.record.RecordedTask.{RecordedTask}
+use Rattle.messages.specs.declared.record.RecordedTask.{RecordedTask}
 use Rattle.cluster_model.specs.Channels.{World, Happening, after, after_all}
 use Rattle.cluster_safe.specs.Updates.{longer, states_under, recorded_states, updates_over}
 use Rattle.cluster_safe.proofs.Ids.{same_refl}

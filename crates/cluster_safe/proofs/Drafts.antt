@@ -9,25 +9,25 @@ use Rattle.names_core.specs.Ids.{Numbered, same}
 use Rattle.names_core.specs.declared.state.TaskState.{TaskState}
 use Rattle.quantity.specs.declared.rows.Row.{Row}
 use Rattle.quantity.specs.Rows.{amount, covers}
-use Rattle.mails.specs.declared.task.Job.{Job}
-use Rattle.mails.specs.declared.mail.Command.{Command}
-use Rattle.mails.specs.declared.mail.Command.TheVariants.{Launch, Kill, Ack, EndFramework}
-use Rattle.mails.specs.declared.mail.MasterMail.{MasterMail}
-use Rattle.mails.specs.declared.mail.MasterMail.TheVariants.{Hello, Issued}
-use Rattle.mails.specs.declared.mail.AgentMail.{AgentMail}
-use Rattle.mails.specs.declared.mail.AgentMail.TheVariants.{Report, Applied, Update}
-use Rattle.mails.specs.declared.record.RecordedTask.{RecordedTask}
-use Rattle.mails.specs.declared.refusal.AgentRefusal.{AgentRefusal}
-use Rattle.mails.specs.declared.cause.Cause.{Cause}
-use Rattle.mails.specs.declared.cause.Cause.TheVariants.{Start, Mail, Executor, Again}
-use Rattle.mails.specs.Causes.{task_state}
-use Rattle.mails.specs.declared.refusal.AgentRefusal.TheVariants.{OldSession, NotNext, NoSuchTask, Ended, NoRoom, UpdatesFull, SessionsSpent, TotalLess}
+use Rattle.messages.specs.declared.task.Job.{Job}
+use Rattle.messages.specs.declared.mail.Command.{Command}
+use Rattle.messages.specs.declared.mail.Command.TheVariants.{Launch, Kill, Ack, EndFramework}
+use Rattle.messages.specs.declared.mail.MasterMail.{MasterMail}
+use Rattle.messages.specs.declared.mail.MasterMail.TheVariants.{Hello, Issued}
+use Rattle.messages.specs.declared.mail.AgentMail.{AgentMail}
+use Rattle.messages.specs.declared.mail.AgentMail.TheVariants.{Report, Applied, Update}
+use Rattle.messages.specs.declared.record.RecordedTask.{RecordedTask}
+use Rattle.messages.specs.declared.refusal.AgentRefusal.{AgentRefusal}
+use Rattle.messages.specs.declared.cause.Cause.{Cause}
+use Rattle.messages.specs.declared.cause.Cause.TheVariants.{Start, Mail, Executor, Again}
+use Rattle.messages.specs.Causes.{task_state}
+use Rattle.messages.specs.declared.refusal.AgentRefusal.TheVariants.{OldSession, NotNext, NoSuchTask, Ended, NoRoom, UpdatesFull, SessionsSpent, TotalLess}
 use Rattle.names_core.specs.declared.state.TaskState.TheVariants.{Killed}
 use Rattle.stream_core.specs.Updates.{is_full, is_done}
 use Rattle.cluster_model.specs.Ids.{last_number}
 use Rattle.cluster_model.specs.Agents.{Agent, Draft, has_ended, is_task, fronts, front_at, owning, reopened, reports, opens_next, opens_again, starts, stated, acknowledged, launched_task, put_task, tasks_after, is_front_at, fronts_after, with_tasks, after_command, applies, has_room, receives_mail, needs_place, next_of}
 use Rattle.cluster_model.specs.Channels.{InRun}
-use Rattle.cluster_safe.specs.Facts.{Less, Stake, Past, Fades, InOrder, task_stake, launches, coming, stakes, NotOf, EndsKept, Ordered, AtMost, StateOk, DownOk, IsReportOf, UpOk, drafted, mails_of, states_of, PastOk, Facts}
+use Rattle.cluster_safe.specs.Facts.{Less, TaskInFlight, Past, Fades, InOrder, task_stake, launches, coming, stakes, NotOf, EndsKept, Ordered, AtMost, StateOk, DownOk, IsReportOf, UpOk, drafted, mails_of, states_of, PastOk, Facts}
 use Rattle.cluster_safe.proofs.Ids.{same_refl}
 use Rattle.cluster_safe.proofs.Placed.{put_last}
 use Rattle.cluster_safe.proofs.Orders.{each_append, each_map, each_right, fades_refl, fades_append, stated_aged, acknowledged_aged, fades_kept, fades_mapped, fades_filtered}
@@ -135,7 +135,7 @@ pub coming_next : (p : Past) (a : Agent) (w : Command) → a.in_session ≡ true
 coming_next p a w up at_place = rw up (ap launches (drop_get (p.ever a.session) a.applied w at_place))
 
 -- what may still come has a key behind those of the tasks before it
-all_before : (ts : List RecordedTask) (s : Stake) (more : List Stake) → s.comes ≡ true → InOrder (map task_stake ts ++ s ∷ more) → Each (λ t. Less t.job.key s.job.key) ts
+all_before : (ts : List RecordedTask) (s : TaskInFlight) (more : List TaskInFlight) → s.comes ≡ true → InOrder (map task_stake ts ++ s ∷ more) → Each (λ t. Less t.job.key s.job.key) ts
 all_before [] s more c h = tt
 all_before (t ∷ ts) s more c h = ((each_right (λ u. u.comes ≡ true → Less t.job.key u.job.key) (map task_stake ts) (s ∷ more) h.0).0 c, all_before ts s more c h.1)
 
@@ -151,17 +151,17 @@ fades_command p next total a w s up at_place = rw (coming_next p a w up at_place
     rest : List Command
     rest = drop (suc a.applied) (p.ever a.session)
 
-    before : List Stake
+    before : List TaskInFlight
     before = map task_stake a.tasks
 
     by_kind : (v : Command) → slice_get (p.ever a.session) a.applied ≡ Some v → Fades (map task_stake (tasks_after v a.tasks) ++ launches rest) (before ++ launches (v ∷ rest))
     by_kind (Launch job offers) is = subst (λ ss. Fades ss (before ++ awaited ∷ launches rest)) (sym moved)
         (fades_append before before (one ∷ launches rest) (awaited ∷ launches rest) (fades_refl before) (inl ((refl, (λ e. e), (λ e. refl), ([], refl)), fades_refl (launches rest))))
       where
-        one : Stake
+        one : TaskInFlight
         one = record { job = job; ended = false; states = []; comes = false }
 
-        awaited : Stake
+        awaited : TaskInFlight
         awaited = record { job = job; ended = false; states = []; comes = true }
 
         moved : map task_stake (put_task (launched_task job offers) a.tasks) ++ launches rest ≡ before ++ one ∷ launches rest

@@ -6,28 +6,28 @@ use Rattle.std.proofs.lemmas.Bool.{cond_both}
 use Rattle.names_core.specs.Ids.{Numbered, same}
 use Rattle.names_core.specs.Updates.{Update as Uuid}
 use Rattle.names_core.specs.declared.state.TaskState.{TaskState}
-use Rattle.mails.specs.declared.task.Offer.{Offer}
-use Rattle.mails.specs.declared.task.Booked.{Booked}
-use Rattle.mails.specs.declared.mail.AgentMail.{AgentMail}
-use Rattle.mails.specs.declared.refusal.MasterRefusal.{MasterRefusal}
-use Rattle.mails.specs.declared.call.Call.{Call}
-use Rattle.mails.specs.declared.call.ReconciledTask.{ReconciledTask}
-use Rattle.mails.specs.declared.call.TaskInfo.{TaskInfo}
+use Rattle.messages.specs.declared.task.Offer.{Offer}
+use Rattle.messages.specs.declared.task.Booked.{Booked}
+use Rattle.messages.specs.declared.mail.AgentMail.{AgentMail}
+use Rattle.messages.specs.declared.refusal.MasterRefusal.{MasterRefusal}
+use Rattle.messages.specs.declared.call.Call.{Call}
+use Rattle.messages.specs.declared.call.ReconciledTask.{ReconciledTask}
+use Rattle.messages.specs.declared.call.TaskInfo.{TaskInfo}
 use Rattle.names_core.specs.declared.state.TaskState.TheVariants.{Lost, Error}
-use Rattle.role_weights.specs.Weights.{RoleWeight}
+use Rattle.names_core.specs.Weights.{RoleWeight}
 use Rattle.cluster_model.specs.Ids.{last_number}
 use Rattle.cluster_model.specs.Sides.{Side, opens, SendKill, SendAck, SendEnd, SendHello, Lose}
 use Rattle.cluster_model.specs.Events.{MadeOffer, Event, StreamEvent, failover_error, offer_of, update_event}
-use Rattle.scheduler_events.specs.declared.event.Event.TheVariants as events
-use Rattle.cluster_model.specs.Masters.{Framework, Registers, Master, Move, AtSide, TearDownAll, Doing, nothing, refused, saying, moving, moved, framework_of, is_torn, with_framework, on_stream, stream_of, events_to, events_to_all, Placed, all_booked, put_placed, held_among, held, is_of, withdraws, without_filters_on, side_of, has_numbers, may_have_numbers}
-use Rattle.cluster_model.specs.Calls.{frameworks_limit, new_stream, to_list, subscribed, removed, resubscribed, is_unassigned, sides_with_tasks, on_teardown, answers, answers_held, Given, good_side, given_by, Accepting, is_covered, launching, answering, accepts_as, accepts_one, accepts_all, passes_limits, accepted_as, accepted_from, on_accept, on_decline, on_revive, on_suppress, commanding, on_kill, is_last_received, on_acknowledge, is_live_of, is_awaited, reconciles_as, reconciles, on_reconcile, is_stream, on_its_stream, by_known, called}
-use Rattle.cluster_model.specs.Mails.{judged, rescinds, loses, is_reported, session_opens, news_of, goes_with, mailed_as, mailed, is_due, beats, ticked, agent_lost, hung_up_by, hung_up}
+use Rattle.messages.specs.declared.events.event.Event.TheVariants as events
+use Rattle.cluster_model.specs.Masters.{Framework, Registers, Master, Move, AtSide, TearDownAll, MasterEffect, nothing, refused, saying, moving, moved, framework_of, is_torn, with_framework, on_stream, stream_of, events_to, events_to_all, Placed, all_booked, put_placed, held_among, held, is_of, withdraws, without_filters_on, side_of, has_numbers, may_have_numbers}
+use Rattle.cluster_model.specs.Calls.{frameworks_limit, new_stream, to_list, subscribed, removed, resubscribed, is_unassigned, sides_with_tasks, on_teardown, answers, answers_held, Given, good_side, given_by, Accepting, is_covered, launching, answering, accepts_as, accepts_one, accepts_all, passes_limits, accepted_as, accepted_from, on_accept, on_decline, on_revive, on_suppress, commanding, on_kill, is_last_received, on_acknowledge, is_live_of, is_awaited, reconciles_as, reconciles, on_reconcile, is_stream, on_its_stream, by_known, call_effect}
+use Rattle.cluster_model.specs.Mails.{judged, rescinds, loses, is_reported, session_opens, news_of, goes_with, mailed_as, mail_effect, is_due, beats, ticked, agent_lost, hung_up_by, hung_up}
 use Rattle.cluster_model.specs.Rounds.{entered, offer_events, offers_of, making, allocated}
 use Rattle.cluster_safe.proofs.Orders.{each_append}
-use Rattle.mails.specs.declared.call.Call.TheVariants.{Subscribe, Teardown, Accept, Decline, Revive, Suppress, Acknowledge, Reconcile}
-use Rattle.mails.specs.declared.call.Call.TheVariants as calls
-use Rattle.mails.specs.declared.mail.AgentMail.TheVariants.{Report, Applied, Update}
-use Rattle.mails.specs.declared.refusal.MasterRefusal.TheVariants.{OtherRun, OldSession, Closed, NotOpen, NotSubscribed, WrongStream, NoSuchFramework, LimitExceeded}
+use Rattle.messages.specs.declared.call.Call.TheVariants.{Subscribe, Teardown, Accept, Decline, Revive, Suppress, Acknowledge, Reconcile}
+use Rattle.messages.specs.declared.call.Call.TheVariants as calls
+use Rattle.messages.specs.declared.mail.AgentMail.TheVariants.{Report, Applied, Update}
+use Rattle.messages.specs.declared.refusal.MasterRefusal.TheVariants.{OtherRun, OldSession, Closed, NotOpen, NotSubscribed, WrongStream, NoSuchFramework, LimitExceeded}
 
 -- A holds of the agent, the key, the number and the state of each update that is told
 abbrev pub TellAt : (List ℕ → Numbered → ℕ → TaskState → Type 0) → Option (List ℕ) → Uuid → TaskState → Type 0
@@ -61,15 +61,15 @@ tells_ok A m framework e h = on_ok A (stream_of (framework_of m framework)) e h
 answers_ok : (A : List ℕ → Numbered → ℕ → TaskState → Type 0) (f : Framework) (task : List ℕ) (state : TaskState) (agent : Option (List ℕ)) → Each (EventOk A) (answers f task state agent)
 answers_ok A f task state agent = on_ok A f.stream (update_event task state agent None) tt
 
-if_events : (A : List ℕ → Numbered → ℕ → TaskState → Type 0) (b : Bool) (x y : Doing) → Each (EventOk A) x.events → Each (EventOk A) y.events → Each (EventOk A) (if b then x else y).events
+if_events : (A : List ℕ → Numbered → ℕ → TaskState → Type 0) (b : Bool) (x y : MasterEffect) → Each (EventOk A) x.events → Each (EventOk A) y.events → Each (EventOk A) (if b then x else y).events
 if_events A true x y h k = h
 if_events A false x y h k = k
 
-stream_events : (A : List ℕ → Numbered → ℕ → TaskState → Type 0) (m : Master) (stream o : Option Numbered) (d : Doing) → Each (EventOk A) d.events → Each (EventOk A) (on_its_stream m stream o d).events
+stream_events : (A : List ℕ → Numbered → ℕ → TaskState → Type 0) (m : Master) (stream o : Option Numbered) (d : MasterEffect) → Each (EventOk A) d.events → Each (EventOk A) (on_its_stream m stream o d).events
 stream_events A m stream None d h = tt
 stream_events A m stream (Some s) d h = if_events A (is_stream s stream) d (refused m WrongStream) h tt
 
-known_events : (A : List ℕ → Numbered → ℕ → TaskState → Type 0) (m : Master) (stream : Option Numbered) (o : Option Framework) (doing : Framework → Doing) → ((f : Framework) → Each (EventOk A) (doing f).events) → Each (EventOk A) (by_known m stream o doing).events
+known_events : (A : List ℕ → Numbered → ℕ → TaskState → Type 0) (m : Master) (stream : Option Numbered) (o : Option Framework) (doing : Framework → MasterEffect) → ((f : Framework) → Each (EventOk A) (doing f).events) → Each (EventOk A) (by_known m stream o doing).events
 known_events A m stream None doing h = tt
 known_events A m stream (Some f) doing h = if_events A (is_torn m f.id) (refused m NoSuchFramework) (on_its_stream m stream f.stream (doing f)) tt (stream_events A m stream f.stream (doing f) (h f))
 
@@ -116,7 +116,7 @@ reconcile_events : (A : List ℕ → Numbered → ℕ → TaskState → Type 0) 
 reconcile_events A m [] f = flat_ok A (answers_held f) (λ p. answers_ok A f p.booked.job.name p.booked.state (Some p.agent)) (fold put_placed [] (filter (is_live_of f.id) (all_booked m)))
 reconcile_events A m (a ∷ more) f = flat_ok A (reconciles m f) (λ x. asked_events A m f x (held m f.id x.name)) (a ∷ more)
 
-pub called_events : (A : List ℕ → Numbered → ℕ → TaskState → Type 0) (m : Master) (stream : Option Numbered) (call : Call) → Each (EventOk A) (called m stream call).events
+pub called_events : (A : List ℕ → Numbered → ℕ → TaskState → Type 0) (m : Master) (stream : Option Numbered) (call : Call) → Each (EventOk A) (call_effect m stream call).events
 called_events A m stream (Subscribe None role) = if_events A (nat_le frameworks_limit (length m.registers.frameworks) || nat_le last_number m.registers.last_framework || nat_le last_number m.registers.last_stream) (refused m LimitExceeded) (subscribed m (record m.registers { last_framework = suc m.registers.last_framework }) (record { run = m.run.number; n = suc m.registers.last_framework }) role None) tt (subscribed_events A m (record m.registers { last_framework = suc m.registers.last_framework }) (record { run = m.run.number; n = suc m.registers.last_framework }) role None)
 called_events A m stream (Subscribe (Some id) role) = if_events A (is_unassigned m id) (refused m NoSuchFramework) (if nat_le last_number m.registers.last_stream then refused m LimitExceeded else (if is_torn m id then removed m else resubscribed m id role (framework_of m id))) tt
     (if_events A (nat_le last_number m.registers.last_stream) (refused m LimitExceeded) (if is_torn m id then removed m else resubscribed m id role (framework_of m id)) tt (if_events A (is_torn m id) (removed m) (resubscribed m id role (framework_of m id)) (tt, tt) (resubscribed_events A m id role (framework_of m id))))
@@ -158,7 +158,7 @@ mailed_as_events A m s mail (Some WrongStream) h = tt
 mailed_as_events A m s mail (Some NoSuchFramework) h = tt
 mailed_as_events A m s mail (Some LimitExceeded) h = tt
 
-pub mailed_events : (A : List ℕ → Numbered → ℕ → TaskState → Type 0) (m : Master) (s : Side) (mail : AgentMail) → MailOk (A s.name) mail → Each (EventOk A) (mailed m s mail).events
+pub mailed_events : (A : List ℕ → Numbered → ℕ → TaskState → Type 0) (m : Master) (s : Side) (mail : AgentMail) → MailOk (A s.name) mail → Each (EventOk A) (mail_effect m s mail).events
 mailed_events A m s mail h = mailed_as_events A m s mail (judged m.run s mail) h
 
 pub ticked_events : (A : List ℕ → Numbered → ℕ → TaskState → Type 0) (m : Master) (now : ℕ) → Each (EventOk A) (ticked m now).events

@@ -9,21 +9,21 @@ use Rattle.std.proofs.lemmas.List.Sums.{fold-append}
 use Rattle.names_core.specs.Ids.{Numbered, same}
 use Rattle.names_core.specs.Updates.{Update as Uuid}
 use Rattle.names_core.specs.declared.state.TaskState.{TaskState}
-use Rattle.mails.specs.declared.task.Job.{Job}
-use Rattle.mails.specs.declared.record.Durable.{Durable}
-use Rattle.mails.specs.declared.record.RecordedTask.{RecordedTask}
-use Rattle.mails.specs.declared.call.Call.{Call}
-use Rattle.mails.specs.declared.call.Call.TheVariants.{Subscribe, Teardown, Accept, Decline, Revive, Suppress, Acknowledge, Reconcile}
-use Rattle.mails.specs.declared.call.Call.TheVariants as calls
+use Rattle.messages.specs.declared.task.Job.{Job}
+use Rattle.messages.specs.declared.record.RecordParts.{RecordParts}
+use Rattle.messages.specs.declared.record.RecordedTask.{RecordedTask}
+use Rattle.messages.specs.declared.call.Call.{Call}
+use Rattle.messages.specs.declared.call.Call.TheVariants.{Subscribe, Teardown, Accept, Decline, Revive, Suppress, Acknowledge, Reconcile}
+use Rattle.messages.specs.declared.call.Call.TheVariants as calls
 use Rattle.cluster_model.specs.Channels.{Channel, World, Happening, after_all, open_channel, open_world}
-use Rattle.cluster_histories.specs.Clusters.{Post, Called, Down, Up, Entry}
-use Rattle.cluster_steps.specs.declared.step.Step.{Step}
-use Rattle.cluster_steps.specs.declared.step.Step.TheVariants.{Send}
-use Rattle.cluster_steps.specs.declared.fault.ClusterFault.{ClusterFault}
+use Rattle.cluster_model.specs.Clusters.{Post, Called, Down, Up, Entry}
+use Rattle.messages.specs.declared.steps.step.Step.{Step}
+use Rattle.messages.specs.declared.steps.step.Step.TheVariants.{Send}
+use Rattle.messages.specs.declared.steps.fault.ClusterFault.{ClusterFault}
 use Rattle.cluster_model.specs.Events.{Event, StreamEvent}
-use Rattle.scheduler_events.specs.declared.event.Event.TheVariants as events
+use Rattle.messages.specs.declared.events.event.Event.TheVariants as events
 use Rattle.cluster_model.specs.Openings.{GoodOpening, recorded_jobs}
-use Rattle.cluster_histories.specs.Steps.{Setup, Done, History, Marked, step_marked, extended, extend_all, history, opening, hello_to}
+use Rattle.cluster_model.specs.Steps.{Setup, Done, History, Marked, step_marked, extended, extend_all, history, opening, hello_to}
 use Rattle.cluster_safe.specs.Acknowledged.{Names, WasSent, WasCounted, recorded_tasks}
 use Rattle.cluster_safe.specs.Honest.{IsNumbered, Tells, IsUpdateAmong, handed_in, IsHonestCall, IsHonestStep, Honest, has_number, noted, up_to, counted, acknowledged_by, IsKeyOf, IsBeginningOf}
 use Rattle.cluster_safe.specs.Updates.{longer, states_under, recorded_states, updates_of, AcknowledgeTheirs}
@@ -177,7 +177,7 @@ counted_above key k [] h = absurd h
 counted_above key k (t ∷ ts) (inl h) = cond_both (same t.job.key key) (max t.updates.acknowledged (counted key ts)) (counted key ts) (λ n. k < n) (λ e. (let lt = h.1 in omega arith)) (λ e. absurd (let s : same t.job.key key ≡ true = subst (λ x. same t.job.key x ≡ true) h.0 (same_refl t.job.key) in cc))
 counted_above key k (t ∷ ts) (inr h) = (let lt = counted_above key k ts h in cond_both (same t.job.key key) (max t.updates.acknowledged (counted key ts)) (counted key ts) (λ n. k < n) (λ e. omega arith) (λ e. lt))
 
-counted_within : (key : Numbered) (ts : List RecordedTask) → Each (λ t. t.updates.acknowledged ≤ length t.updates.states) ts → counted key ts ≤ count ts key
+pub counted_within : (key : Numbered) (ts : List RecordedTask) → Each (λ t. t.updates.acknowledged ≤ length t.updates.states) ts → counted key ts ≤ count ts key
 counted_within key [] h = omega arith
 counted_within key (t ∷ ts) h = (let rest = counted_within key ts h.1 in by (same t.job.key key) rest)
   where
@@ -185,7 +185,7 @@ counted_within key (t ∷ ts) h = (let rest = counted_within key ts h.1 in by (s
     by true rest = (let left = longer_left t.updates.states (states_under key ts) in let right = longer_right t.updates.states (states_under key ts) in let own = h.0 in omega (arith, left, right, own, rest))
     by false rest = rest
 
-opened_tasks : (ds : List Durable) → flat_map (λ (c : Channel). c.agent.durable.tasks) (map open_channel ds) ≡ recorded_tasks ds
+pub opened_tasks : (ds : List RecordParts) → flat_map (λ (c : Channel). c.agent.durable.tasks) (map open_channel ds) ≡ recorded_tasks ds
 opened_tasks [] = refl
 opened_tasks (d ∷ ds) = ap (λ ts. d.tasks ++ ts) (opened_tasks ds)
 
@@ -226,10 +226,10 @@ told_count start hs key = length (updates_of key hs start)
 abbrev pub Owns : Numbered → Numbered → List Job → Type 0
 Owns framework key jobs = (j : Job) → IsOneOf j jobs → j.key ≡ key → j.framework ≡ framework
 
-abbrev pub all_jobs : List Durable → World → List Happening → List Job
+abbrev pub all_jobs : List RecordParts → World → List Happening → List Job
 all_jobs records start hs = jobs_of (trail hs start []) ++ recorded_jobs records
 
-acked_has : (records : List Durable) (start : World) (h : History) (framework key : Numbered) → Owns framework key (all_jobs records start h.happenings) → (j : ℕ) → AckedBy records (trail h.happenings start []) h.state.posts key j → has_number (acknowledged_by records framework key h.state.posts) j ≡ true
+acked_has : (records : List RecordParts) (start : World) (h : History) (framework key : Numbered) → Owns framework key (all_jobs records start h.happenings) → (j : ℕ) → AckedBy records (trail h.happenings start []) h.state.posts key j → has_number (acknowledged_by records framework key h.state.posts) j ≡ true
 acked_has records start h framework key owns j a = by a.3
   where
     by : WasSent a.0.framework key j h.state.posts ⊎ WasCounted key j (recorded_tasks records) → has_number (acknowledged_by records framework key h.state.posts) j ≡ true
@@ -241,7 +241,7 @@ within [] k state h = absurd cc
 within (x ∷ xs) zero state h = omega arith
 within (x ∷ xs) (suc k) state h = (let lt = within xs k state h in omega arith)
 
-call_ready : (records : List Durable) (start : World) (h : History) (framework key : Numbered) → HistoryOk records start h → OriginOk records start [] → Owns framework key (all_jobs records start h.happenings) → (stream : Option Numbered) (call : Call) → IsHonestCall framework h.entries call → Ready framework key (told_count start h.happenings key) (acknowledged_by records framework key h.state.posts) (Called stream call)
+call_ready : (records : List RecordParts) (start : World) (h : History) (framework key : Numbered) → HistoryOk records start h → OriginOk records start [] → Owns framework key (all_jobs records start h.happenings) → (stream : Option Numbered) (call : Call) → IsHonestCall framework h.entries call → Ready framework key (told_count start h.happenings key) (acknowledged_by records framework key h.state.posts) (Called stream call)
 call_ready records start h framework key ok origin owns stream (Acknowledge f agent task uuid) honest k names = (λ j lt. acked_has records start h framework key owns j (told.0 j lt), told.1)
   where
     T : List ℕ → Numbered → ℕ → TaskState → Type 0
@@ -263,7 +263,7 @@ call_ready records start h framework key ok origin owns stream (Reconcile f task
 wider : (most later : ℕ) (ks : List ℕ) → most ≤ later → Gapless most ks → Gapless later ks
 wider most later ks le g = (g.0, g.1, le_trans g.2 le)
 
-extended_gapless : (records : List Durable) (start : World) (h : History) (framework key : Numbered) (step : Step) (r : Result Done ClusterFault) → HistoryOk records start h → OriginOk records start [] → Owns framework key (all_jobs records start h.happenings) → Legal (AckedBy records (trail h.happenings start []) h.state.posts) (Tellable records start h.happenings h.state.posts) (λ stream call. IsHonestCall framework h.entries call) h.state r →
+extended_gapless : (records : List RecordParts) (start : World) (h : History) (framework key : Numbered) (step : Step) (r : Result Done ClusterFault) → HistoryOk records start h → OriginOk records start [] → Owns framework key (all_jobs records start h.happenings) → Legal (AckedBy records (trail h.happenings start []) h.state.posts) (Tellable records start h.happenings h.state.posts) (λ stream call. IsHonestCall framework h.entries call) h.state r →
     Gapless (told_count start h.happenings key) (acknowledged_by records framework key h.state.posts) → Gapless (told_count start (extended h step r).happenings key) (acknowledged_by records framework key (extended h step r).state.posts)
 extended_gapless records start h framework key step (Ok d) ok origin owns l g =
     wider most later (acknowledged_by records framework key d.after.posts) grown (subst (λ ps. Gapless most (acknowledged_by records framework key ps)) (sym l.4.1)
@@ -280,18 +280,18 @@ extended_gapless records start h framework key step (Ok d) ok origin owns l g =
     grown = subst (λ xs. told_count start h.happenings key ≤ length xs) (sym (over_append key h.happenings d.happenings start (recorded_states key start))) (over_more key d.happenings (after_all h.happenings start) (updates_of key h.happenings start))
 extended_gapless records start h framework key step (Err refusal) ok origin owns l g = g
 
-jobs_step : (records : List Durable) (start : World) (h : History) (step : Step) (r : Result Done ClusterFault) (j : Job) → IsOneOf j (all_jobs records start h.happenings) → IsOneOf j (all_jobs records start (extended h step r).happenings)
+jobs_step : (records : List RecordParts) (start : World) (h : History) (step : Step) (r : Result Done ClusterFault) (j : Job) → IsOneOf j (all_jobs records start h.happenings) → IsOneOf j (all_jobs records start (extended h step r).happenings)
 jobs_step records start h step (Ok d) j x = subst (λ ms. IsOneOf j (jobs_of ms ++ recorded_jobs records)) (sym (trail_append h.happenings d.happenings start [])) (jobs_grow d.happenings (after_all h.happenings start) (trail h.happenings start []) (recorded_jobs records) j x)
 jobs_step records start h step (Err refusal) j x = x
 
-jobs_kept : (records : List Durable) (start : World) (ss : List Marked) (h : History) (j : Job) → IsOneOf j (all_jobs records start h.happenings) → IsOneOf j (all_jobs records start (extend_all h ss).happenings)
+jobs_kept : (records : List RecordParts) (start : World) (ss : List Marked) (h : History) (j : Job) → IsOneOf j (all_jobs records start h.happenings) → IsOneOf j (all_jobs records start (extend_all h ss).happenings)
 jobs_kept records start [] h j x = x
 jobs_kept records start (s ∷ ss) h j x = jobs_kept records start ss (extended h s.step (step_marked h.state s)) j (jobs_step records start h s.step (step_marked h.state s) j x)
 
 honest_send : (framework : Numbered) (entries : List Entry) (s : Step) → IsHonestStep framework entries s → (stream : Option Numbered) (call : Call) → s ≡ Send stream call → IsHonestCall framework entries call
 honest_send framework entries s h stream call e = subst (IsHonestStep framework entries) e h
 
-all_gapless : (records : List Durable) (start : World) (framework key : Numbered) (ss : List Marked) (h : History) → HistoryOk records start h → OriginOk records start [] → Honest framework h ss → Owns framework key (all_jobs records start (extend_all h ss).happenings) →
+all_gapless : (records : List RecordParts) (start : World) (framework key : Numbered) (ss : List Marked) (h : History) → HistoryOk records start h → OriginOk records start [] → Honest framework h ss → Owns framework key (all_jobs records start (extend_all h ss).happenings) →
     Gapless (told_count start h.happenings key) (acknowledged_by records framework key h.state.posts) → Gapless (told_count start (extend_all h ss).happenings key) (acknowledged_by records framework key (extend_all h ss).state.posts)
 all_gapless records start framework key [] h ok origin honest owns g = g
 all_gapless records start framework key (s ∷ ss) h ok origin honest owns g =
@@ -299,14 +299,14 @@ all_gapless records start framework key (s ∷ ss) h ok origin honest owns g =
     (extended_gapless records start h framework key s.step (step_marked h.state s) ok origin (λ j x e. owns j (jobs_kept records start (s ∷ ss) h j x) e)
     (step_legal (AckedBy records (trail h.happenings start []) h.state.posts) (Tellable records start h.happenings h.state.posts) (λ stream call. IsHonestCall framework h.entries call) h.state (all_room (updates_in start h.happenings) h.state.world ok.sent.world) (number_tells records h.state (trail h.happenings start []) ok.origin ok.known) (all_tell records start h ok) s (honest_send framework h.entries s.step honest.0)) g)
 
-opening_gapless : (setup : Setup) (records : List Durable) (framework key : Numbered) → AcknowledgeTheirs records → Gapless (told_count (open_world setup.run records) (opening setup records).happenings key) (acknowledged_by records framework key (opening setup records).state.posts)
+opening_gapless : (setup : Setup) (records : List RecordParts) (framework key : Numbered) → AcknowledgeTheirs records → Gapless (told_count (open_world setup.run records) (opening setup records).happenings key) (acknowledged_by records framework key (opening setup records).state.posts)
 opening_gapless setup records framework key theirs = (
   counted key (recorded_tasks records),
   fold_quiet framework key (opening setup records).state.posts (up_to (counted key (recorded_tasks records))) (no_calls (map hello_to (open_world setup.run records).channels) (open_world setup.run records)),
   le_trans (subst (λ ts. counted key (recorded_tasks records) ≤ count ts key) (sym (opened_tasks records)) (counted_within key (recorded_tasks records) theirs)) (over_more key (map hello_to (open_world setup.run records).channels) (open_world setup.run records) (recorded_states key (open_world setup.run records))),
 )
 
-pub history_acknowledges : (setup : Setup) (records : List Durable) (steps : List Marked) (framework key : Numbered) → GoodOpening setup.run records → AcknowledgeTheirs records → Honest framework (opening setup records) steps → IsKeyOf framework key (jobs_of (trail (history setup records steps).happenings (open_world setup.run records) []) ++ recorded_jobs records) →
+pub history_acknowledges : (setup : Setup) (records : List RecordParts) (steps : List Marked) (framework key : Numbered) → GoodOpening setup.run records → AcknowledgeTheirs records → Honest framework (opening setup records) steps → IsKeyOf framework key (jobs_of (trail (history setup records steps).happenings (open_world setup.run records) []) ++ recorded_jobs records) →
     IsBeginningOf (updates_of key (history setup records steps).happenings (open_world setup.run records)) (acknowledged_by records framework key (history setup records steps).state.posts)
 history_acknowledges setup records steps framework key good theirs honest of =
     all_gapless records (open_world setup.run records) framework key steps (opening setup records) (opening_ok setup records good) (origin_opened setup.run records good) honest owns (opening_gapless setup records framework key theirs)

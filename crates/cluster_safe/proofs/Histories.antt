@@ -3,24 +3,24 @@ use Rattle.std.proofs.Common.{length, zero, inl, inr, append_assoc, append-nil, 
 use Rattle.std.specs.Prelude.{⊤, if◌then◌else◌, ◌==◌, ◌⊎◌, IfSome}
 use Rattle.std.specs.List.{AllByRecursion as Each, find, list_any}
 use Rattle.std.proofs.lemmas.Bool.{cond_both}
-use Rattle.mails.specs.declared.call.Call.TheVariants.{Subscribe, Teardown, Accept, Decline, Revive, Suppress, Acknowledge, Reconcile}
-use Rattle.mails.specs.declared.call.Call.TheVariants as calls
+use Rattle.messages.specs.declared.call.Call.TheVariants.{Subscribe, Teardown, Accept, Decline, Revive, Suppress, Acknowledge, Reconcile}
+use Rattle.messages.specs.declared.call.Call.TheVariants as calls
 use Rattle.names_core.specs.Ids.{Numbered, same}
 use Rattle.names_core.specs.declared.state.TaskState.{TaskState}
 use Rattle.quantity.specs.declared.rows.Row.{Row}
 use Rattle.quantity.specs.Rows.{covers}
-use Rattle.mails.specs.declared.task.Job.{Job}
-use Rattle.mails.specs.declared.task.Booked.{Booked}
-use Rattle.mails.specs.declared.mail.MasterMail.{MasterMail}
-use Rattle.mails.specs.declared.mail.AgentMail.{AgentMail}
-use Rattle.mails.specs.declared.record.Durable.{Durable}
-use Rattle.mails.specs.declared.record.RecordedTask.{RecordedTask}
-use Rattle.mails.specs.declared.refusal.AgentRefusal.{AgentRefusal}
-use Rattle.mails.specs.declared.refusal.MasterRefusal.{MasterRefusal}
-use Rattle.mails.specs.declared.call.Call.{Call}
-use Rattle.mails.specs.declared.cause.Cause.TheVariants.{Start, Executor, Again}
-use Rattle.mails.specs.Causes.{task_state}
-use Rattle.mails.specs.declared.refusal.AgentRefusal.TheVariants.{NotForMe, OldSession, NoSuchTask, Ended, NoRoom, UpdatesFull, SessionsSpent, TotalLess}
+use Rattle.messages.specs.declared.task.Job.{Job}
+use Rattle.messages.specs.declared.task.Booked.{Booked}
+use Rattle.messages.specs.declared.mail.MasterMail.{MasterMail}
+use Rattle.messages.specs.declared.mail.AgentMail.{AgentMail}
+use Rattle.messages.specs.declared.record.RecordParts.{RecordParts}
+use Rattle.messages.specs.declared.record.RecordedTask.{RecordedTask}
+use Rattle.messages.specs.declared.refusal.AgentRefusal.{AgentRefusal}
+use Rattle.messages.specs.declared.refusal.MasterRefusal.{MasterRefusal}
+use Rattle.messages.specs.declared.call.Call.{Call}
+use Rattle.messages.specs.declared.cause.Cause.TheVariants.{Start, Executor, Again}
+use Rattle.messages.specs.Causes.{task_state}
+use Rattle.messages.specs.declared.refusal.AgentRefusal.TheVariants.{NotForMe, OldSession, NoSuchTask, Ended, NoRoom, UpdatesFull, SessionsSpent, TotalLess}
 use Rattle.stream_core.specs.Updates.{is_full}
 use Rattle.cluster_model.specs.Ids.{last_number, last_run}
 use Rattle.cluster_model.specs.Agents.{Agent, Draft, has_ended, is_task, front_at, owning, reopened, reports, opens_next, opens_again, starts, stated, with_tasks, receives_mail, needs_place, executes, next_of}
@@ -28,22 +28,22 @@ use Rattle.cluster_model.specs.Sides.{Run, Side}
 use Rattle.cluster_model.specs.Channels.{Channel, AgentStep, Draw, DrawMail, Adopt, StopWithout, StopWith, Receive, ByAgent, World, Happening, At, Restart, Halt, after, after_all, open_channel, open_world, AllFit}
 use Rattle.cluster_model.specs.Openings.{recorded_jobs, KeysOnce, GoodOpening}
 use Rattle.cluster_model.specs.Events.{Event, StreamEvent}
-use Rattle.scheduler_events.specs.declared.event.Event.TheVariants as events
-use Rattle.cluster_model.specs.Masters.{Framework, Master, new_registers, Doing, framework_of, Placed, placed_on, all_booked, is_task_of}
-use Rattle.cluster_model.specs.Calls.{is_last_received, called}
-use Rattle.cluster_model.specs.Mails.{mailed, ticked, agent_lost, hung_up}
+use Rattle.messages.specs.declared.events.event.Event.TheVariants as events
+use Rattle.cluster_model.specs.Masters.{Framework, Master, new_registers, MasterEffect, framework_of, Placed, placed_on, all_booked, is_task_of}
+use Rattle.cluster_model.specs.Calls.{is_last_received, call_effect}
+use Rattle.cluster_model.specs.Mails.{mail_effect, ticked, agent_lost, hung_up}
 use Rattle.cluster_model.specs.Rounds.{allocated}
-use Rattle.cluster_histories.specs.Clusters.{Stream, Post, Called, Down, Up, Cluster, sides_of, master_of, Entry}
-use Rattle.cluster_steps.specs.declared.step.StepCause.{StepCause}
-use Rattle.cluster_steps.specs.declared.step.StepCause.TheVariants.{Start as ByStart, Again as ByAgain, Executor as ByExecutor, Mail as ByMail}
-use Rattle.cluster_steps.specs.declared.step.Step.{Step}
-use Rattle.cluster_steps.specs.declared.step.Step.TheVariants.{Send, Deliver, Allocate, Tick, LoseAgent, HangUp, Prepare, Commit, StopAgent, StopMaster, Take}
-use Rattle.cluster_steps.specs.declared.step.Keep.TheVariants as keep
-use Rattle.cluster_steps.specs.declared.fault.ClusterFault.{ClusterFault}
-use Rattle.cluster_steps.specs.declared.fault.ClusterFault.TheVariants.{MasterDown, AgentDown, DraftOpen, NoDraft, HistoryFull, TimeBack}
-use Rattle.cluster_steps.specs.declared.verdict.Verdict.{Verdict}
-use Rattle.cluster_steps.specs.declared.verdict.Verdict.TheVariants.{Ok as Fine, MasterRefused, AgentRefused, OutOfMemory as Fell}
-use Rattle.cluster_histories.specs.Steps.{Setup, posts_by, Effect, Done, done, entry_of, does, happening, verdict_of, effect_of, master_does, master_receives, channel_of, delivers_up, delivers, post_at, with_tick, ticks_at, stream_at, hangs_up, loses_agent, hello_to, drafts, draws_mail_at, draws_mail, prepares, commits, up_again, stops, with_master, at_channel, is_fallen, if_up, by_draft, without_draft, with_draft, takes_event, takes, answer, master_falls, new_master_falls, fallen_too, agent_falls, instead, fallen_answer, Marked, step_marked, History, opening, extended, extend_all, history}
+use Rattle.cluster_model.specs.Clusters.{Stream, Post, Called, Down, Up, Cluster, sides_of, master_of, Entry}
+use Rattle.messages.specs.declared.steps.step.StepCause.{StepCause}
+use Rattle.messages.specs.declared.steps.step.StepCause.TheVariants.{Start as ByStart, Again as ByAgain, Executor as ByExecutor, Mail as ByMail}
+use Rattle.messages.specs.declared.steps.step.Step.{Step}
+use Rattle.messages.specs.declared.steps.step.Step.TheVariants.{Send, Deliver, Allocate, Tick, LoseAgent, HangUp, Prepare, Commit, StopAgent, StopMaster, Take}
+use Rattle.messages.specs.declared.steps.step.Keep.TheVariants as keep
+use Rattle.messages.specs.declared.steps.fault.ClusterFault.{ClusterFault}
+use Rattle.messages.specs.declared.steps.fault.ClusterFault.TheVariants.{MasterDown, AgentDown, DraftOpen, NoDraft, HistoryFull, TimeBack}
+use Rattle.messages.specs.declared.steps.verdict.Verdict.{Verdict}
+use Rattle.messages.specs.declared.steps.verdict.Verdict.TheVariants.{Ok as Fine, MasterRefused, AgentRefused, OutOfMemory as Fell}
+use Rattle.cluster_model.specs.Steps.{Setup, posts_by, Effect, Done, done, entry_of, does, happening, verdict_of, effect_of, master_does, master_receives, channel_of, delivers_up, delivers, post_at, with_tick, ticks_at, stream_at, hangs_up, loses_agent, hello_to, drafts, draws_mail_at, draws_mail, prepares, commits, up_again, stops, with_master, at_channel, is_fallen, if_up, by_draft, without_draft, with_draft, takes_event, takes, answer, master_falls, new_master_falls, fallen_too, agent_falls, instead, fallen_answer, Marked, step_marked, History, opening, extended, extend_all, history}
 use Rattle.cluster_safe.specs.Facts.{HasRoom, RoomForAll}
 use Rattle.cluster_safe.specs.Acknowledged.{Names, WasSent, WasCounted, recorded_tasks, AcknowledgedByOwner}
 use Rattle.cluster_safe.specs.Saved.{IsFound}
@@ -59,19 +59,19 @@ use Rattle.cluster_safe.proofs.OriginWorlds.{ChannelOk, OriginOk, origin_all, ha
 use Rattle.cluster_safe.proofs.Openings.{opening_good, opening_from, origin_opened}
 use Rattle.cluster_safe.proofs.Launches.{AllFrom, number_rises, worlds_from, opened_from}
 use Rattle.cluster_safe.proofs.Registers.{IsUpTo, AllUpTo, StaysUpTo, found_up_to, called_up_to, mailed_up_to, ticked_up_to, lost_up_to, hung_up_to}
-use Rattle.cluster_safe.proofs.Stopped.{apart_one, on_of, rec_of, found_good}
+use Rattle.cluster_safe.proofs.Stopped.{all_from, apart_one, found_good}
 use Rattle.cluster_safe.proofs.Owners.{updates_there, update_there}
 use Rattle.cluster_safe.proofs.Acks.{Always, AllAcked, HappeningOk, MoveOk, worlds_acked, happenings_ok, CallOk, called_ok, mailed_ok, ticked_ok, lost_ok, hung_ok, allocated_ok}
 use Rattle.names_core.specs.Updates.{Update}
 use Rattle.cluster_safe.proofs.Names.{AllNamed, open_named, worlds_named}
 use Rattle.cluster_safe.specs.Premises.{MeetsPremises}
 use Rattle.cluster_safe.proofs.Premises.{all_premises}
-use Rattle.cluster_histories.specs.Steps.{Effect, new_to_agent, new_to_master, places, posts_between, posts_by, posts_in, events_on, receives, new_stream, streams_after, takes_one}
+use Rattle.cluster_model.specs.Steps.{Effect, new_to_agent, new_to_master, places, posts_between, posts_by, posts_in, events_on, receives, new_stream, streams_after, takes_one}
 use Rattle.cluster_safe.proofs.Events.{TellAt, TellOk, EventOk, MailOk, allocated_events, called_events, event_wider, hung_events, lost_events, mailed_events, ticked_events}
 use Rattle.cluster_safe.proofs.Orders.{each_at}
 use Rattle.std.proofs.Common.{le_trans, le_refl}
-use Rattle.mails.specs.declared.mail.AgentMail.TheVariants.{Report, Applied}
-use Rattle.mails.specs.declared.mail.AgentMail.TheVariants as mails
+use Rattle.messages.specs.declared.mail.AgentMail.TheVariants.{Report, Applied}
+use Rattle.messages.specs.declared.mail.AgentMail.TheVariants as mails
 use Rattle.cluster_safe.specs.Updates.{updates_of, states_on, sent_over, updates_on, IsUpdateOf, HasUpdateOf, SendsUpdates, HandsUpdates, HaveAllUpdates}
 use Rattle.cluster_safe.proofs.Told.{UpTold}
 
@@ -158,7 +158,7 @@ taken_ok T id (s ∷ ss) h = (cond_both (same s.id id) (record { id = s.id; even
 legal_effect : (A : Numbered → ℕ → Type 0) (T : List ℕ → Numbered → ℕ → TaskState → Type 0) (S : Option Numbered → Call → Type 0) (c : Cluster) (e : Effect) → Each (EventOk T) e.events → NotNoRoom e.verdict → Each (HappeningOk A c.world.run.number) e.happenings → (AllUpTo c.world.run.number c.registers.frameworks → AllUpTo c.world.run.number e.registers.frameworks) → Legal A T S c (does c e)
 legal_effect A T S c e ev v h known = (refl, v, h, ev, (posts_by e.happenings c.world, refl, inl (no_calls e.happenings c.world)), (λ k. (streams_ok T c.streams e.opens e.events ev k, tt)), known)
 
-hellos_ok : (A : Numbered → ℕ → Type 0) (n : ℕ) (cs : List Channel) → Each (HappeningOk A n) (map hello_to cs)
+pub hellos_ok : (A : Numbered → ℕ → Type 0) (n : ℕ) (cs : List Channel) → Each (HappeningOk A n) (map hello_to cs)
 hellos_ok A n [] = tt
 hellos_ok A n (c ∷ cs) = (tt, hellos_ok A n cs)
 
@@ -170,7 +170,7 @@ verdict_has_room : (o : Option MasterRefusal) → NotNoRoom (verdict_of o)
 verdict_has_room None = tt
 verdict_has_room (Some refusal) = tt
 
-master_legal : (A : Numbered → ℕ → Type 0) (T : List ℕ → Numbered → ℕ → TaskState → Type 0) (S : Option Numbered → Call → Type 0) (c : Cluster) (d : Doing) → Each (MoveOk A c.world.run.number) d.moves → Each (EventOk T) d.events → (AllUpTo c.world.run.number c.registers.frameworks → StaysUpTo c.world.run.number d) → Legal A T S c (master_does c d)
+master_legal : (A : Numbered → ℕ → Type 0) (T : List ℕ → Numbered → ℕ → TaskState → Type 0) (S : Option Numbered → Call → Type 0) (c : Cluster) (d : MasterEffect) → Each (MoveOk A c.world.run.number) d.moves → Each (EventOk T) d.events → (AllUpTo c.world.run.number c.registers.frameworks → StaysUpTo c.world.run.number d) → Legal A T S c (master_does c d)
 master_legal A T S c d h events known = legal_effect A T S c (effect_of [] d) events (verdict_has_room d.refusal) (happenings_ok A c.world.run.number d.moves h) known
 
 takes_event_legal : (A : Numbered → ℕ → Type 0) (T : List ℕ → Numbered → ℕ → TaskState → Type 0) (S : Option Numbered → Call → Type 0) (c : Cluster) (id : Numbered) (e : Option Event) → (Each (StreamOk T) c.streams → (event : Event) → e ≡ Some event → TellOk T event) → Legal A T S c (takes_event c id e)
@@ -186,7 +186,7 @@ found_stream T c id k stream e = found (StreamOk T) (λ (s : Stream). same s.id 
 
 receives_legal : (A : Numbered → ℕ → Type 0) (T : List ℕ → Numbered → ℕ → TaskState → Type 0) (S : Option Numbered → Call → Type 0) (c : Cluster) (x : Channel) (place : ℕ) (mail : Option AgentMail) → ((m : AgentMail) → mail ≡ Some m → MailOk (T x.side.name) m) → Legal A T S c (master_receives c x place mail)
 receives_legal A T S c x place None up = tt
-receives_legal A T S c x place (Some mail) up = legal_effect A T S c (effect_of (At x.side.name (Receive place) ∷ []) (mailed (master_of c) x.side mail)) (mailed_events T (master_of c) x.side mail (up mail refl)) (verdict_has_room (mailed (master_of c) x.side mail).refusal) (tt, happenings_ok A c.world.run.number (mailed (master_of c) x.side mail).moves (mailed_ok A c.world.run.number (master_of c) x.side mail)) (λ k. mailed_up_to c.world.run.number (master_of c) x.side mail k)
+receives_legal A T S c x place (Some mail) up = legal_effect A T S c (effect_of (At x.side.name (Receive place) ∷ []) (mail_effect (master_of c) x.side mail)) (mailed_events T (master_of c) x.side mail (up mail refl)) (verdict_has_room (mail_effect (master_of c) x.side mail).refusal) (tt, happenings_ok A c.world.run.number (mail_effect (master_of c) x.side mail).moves (mailed_ok A c.world.run.number (master_of c) x.side mail)) (λ k. mailed_up_to c.world.run.number (master_of c) x.side mail k)
 
 delivers_up_legal : (A : Numbered → ℕ → Type 0) (T : List ℕ → Numbered → ℕ → TaskState → Type 0) (S : Option Numbered → Call → Type 0) (c : Cluster) (place : ℕ) (agent : List ℕ) → AllTell T c.world → Legal A T S c (delivers_up c place (channel_of c agent))
 delivers_up_legal A T S c place agent acked = found (λ (x : Channel). Each (MailOk (T x.side.name)) x.to_master) (λ (x : Channel). bytes_eq x.side.name agent) (λ o. Legal A T S c (delivers_up c place o)) tt
@@ -201,7 +201,7 @@ PostOk A m (Some (Up agent place)) = ⊤
 
 delivers_legal : (A : Numbered → ℕ → Type 0) (T : List ℕ → Numbered → ℕ → TaskState → Type 0) (S : Option Numbered → Call → Type 0) (c : Cluster) (p : Option Post) → PostOk A (master_of c) p → AllTell T c.world → Legal A T S c (delivers c p)
 delivers_legal A T S c None h acked = tt
-delivers_legal A T S c (Some (Called stream call)) h acked = master_legal A T S c (called (master_of c) stream call) (called_ok A c.world.run.number (master_of c) stream call h) (called_events T (master_of c) stream call) (λ k. called_up_to (master_of c) stream call k)
+delivers_legal A T S c (Some (Called stream call)) h acked = master_legal A T S c (call_effect (master_of c) stream call) (called_ok A c.world.run.number (master_of c) stream call h) (called_events T (master_of c) stream call) (λ k. called_up_to (master_of c) stream call k)
 delivers_legal A T S c (Some (Down agent place)) h acked = tt
 delivers_legal A T S c (Some (Up agent place)) h acked = delivers_up_legal A T S c place agent acked
 
@@ -315,7 +315,7 @@ step_legal A T S c rooms acks acked s sends = by_test A T S c (nat_le last_numbe
 
 -- histories
 
-after_append : (hs more : List Happening) (w : World) → after_all (hs ++ more) w ≡ after_all more (after_all hs w)
+pub after_append : (hs more : List Happening) (w : World) → after_all (hs ++ more) w ≡ after_all more (after_all hs w)
 after_append [] more w = refl
 after_append (h ∷ hs) more w = after_append hs more (after w h)
 
@@ -324,7 +324,7 @@ trail_append [] more w marks = refl
 trail_append (h ∷ hs) more w marks = trail_append hs more (after w h) (marks_by w h ++ marks)
 
 -- an update that a call of its task's framework acknowledged, or that the opening counted
-abbrev pub AckedBy : List Durable → List Mark → List Post → Numbered → ℕ → Type 0
+abbrev pub AckedBy : List RecordParts → List Mark → List Post → Numbered → ℕ → Type 0
 AckedBy records marks posts key k = (j : Job) × IsOneOf j (jobs_of marks ++ recorded_jobs records) × (j.key ≡ key) × (WasSent j.framework key k posts ⊎ WasCounted key k (recorded_tasks records))
 
 sent_more : (framework key : Numbered) (k : ℕ) (posts more : List Post) → WasSent framework key k posts → WasSent framework key k (posts ++ more)
@@ -341,7 +341,7 @@ pub jobs_grow : (hs : List Happening) (w : World) (marks : List Mark) (old : Lis
 jobs_grow [] w marks old j h = h
 jobs_grow (x ∷ hs) w marks old j h = jobs_grow hs (after w x) (marks_by w x ++ marks) old j (jobs_more (marks_by w x) marks old j h)
 
-acked_more : (records : List Durable) (hs : List Happening) (w : World) (marks : List Mark) (posts more : List Post) (key : Numbered) (k : ℕ) → AckedBy records marks posts key k → AckedBy records (trail hs w marks) (posts ++ more) key k
+pub acked_more : (records : List RecordParts) (hs : List Happening) (w : World) (marks : List Mark) (posts more : List Post) (key : Numbered) (k : ℕ) → AckedBy records marks posts key k → AckedBy records (trail hs w marks) (posts ++ more) key k
 acked_more records hs w marks posts more key k h = (h.0, jobs_grow hs w marks (recorded_jobs records) h.0 h.1, h.2, by h.3)
   where
     by : WasSent h.0.framework key k posts ⊎ WasCounted key k (recorded_tasks records) → WasSent h.0.framework key k (posts ++ more) ⊎ WasCounted key k (recorded_tasks records)
@@ -371,10 +371,6 @@ any_placed P test (p ∷ ps) h e = by (test p) refl e (any_placed P test ps h.1)
     by true d k rest = (p, h.0, d)
     by false d k rest = rest (rw d at k)
 
-all_from : (rs : List Durable) (marks : List Mark) (a : List ℕ) (j : Job) → From rs a marks j → IsOneOf j (jobs_of marks ++ recorded_jobs rs)
-all_from rs marks a j (inl h) = in_front_of (jobs_of marks) (recorded_jobs rs) j (on_of a marks j h)
-all_from rs marks a j (inr h) = in_behind (jobs_of marks) (recorded_jobs rs) j (rec_of a rs j h)
-
 booked_placed : (P : Job → Type 0) (s : Side) → Each (λ b. P b.job) s.booked → Each (λ (p : Placed). P p.booked.job) (placed_on s)
 booked_placed P s h = each_of_map s.booked h
   where
@@ -382,14 +378,14 @@ booked_placed P s h = each_of_map s.booked h
     each_of_map [] h = tt
     each_of_map (b ∷ bs) h = (h.0, each_of_map bs h.1)
 
-placed_from : (rs : List Durable) (run : Run) (marks : List Mark) (cs : List Channel) → Each (ChannelOk rs run marks) cs → Each (λ p. IsOneOf p.booked.job (jobs_of marks ++ recorded_jobs rs)) (flat_map placed_on (sides_of cs))
+placed_from : (rs : List RecordParts) (run : Run) (marks : List Mark) (cs : List Channel) → Each (ChannelOk rs run marks) cs → Each (λ p. IsOneOf p.booked.job (jobs_of marks ++ recorded_jobs rs)) (flat_map placed_on (sides_of cs))
 placed_from rs run marks [] h = tt
 placed_from rs run marks (c ∷ cs) h =
     each_append (λ p. IsOneOf p.booked.job (jobs_of marks ++ recorded_jobs rs)) (placed_on c.side) (flat_map placed_on (sides_of cs))
     (booked_placed (λ j. IsOneOf j (jobs_of marks ++ recorded_jobs rs)) c.side (each_map (λ b. From rs c.side.name marks b.job) (λ b. IsOneOf b.job (jobs_of marks ++ recorded_jobs rs)) (λ b k. all_from rs marks c.side.name b.job k) c.side.booked h.0.1.booked))
     (placed_from rs run marks cs h.1)
 
-ack_tells : (rs : List Durable) (c : Cluster) (marks : List Mark) → OriginOk rs c.world marks → (n : ℕ) (stream : Option Numbered) (framework : Numbered) (agent task : List ℕ) (uuid : Update) → slice_get c.posts n ≡ Some (Called stream (Acknowledge framework agent task uuid)) →
+ack_tells : (rs : List RecordParts) (c : Cluster) (marks : List Mark) → OriginOk rs c.world marks → (n : ℕ) (stream : Option Numbered) (framework : Numbered) (agent task : List ℕ) (uuid : Update) → slice_get c.posts n ≡ Some (Called stream (Acknowledge framework agent task uuid)) →
     (f : Framework) → framework_of (master_of c) framework ≡ Some f → list_any (is_last_received f agent task uuid.key uuid.k) (all_booked (master_of c)) ≡ true → AckedBy rs marks c.posts uuid.key uuid.k
 ack_tells rs c marks ok n stream framework agent task uuid at f is any =
     (p.0.booked.job, p.1, key, inl (subst (λ g. WasSent g uuid.key uuid.k c.posts) (sym (own ∙ find_is framework c.registers.frameworks f is)) (sent_at c.posts n stream framework agent task uuid at)))
@@ -412,7 +408,7 @@ ack_tells rs c marks ok n stream framework agent task uuid at f is any =
     own : p.0.booked.job.framework ≡ f.id
     own = same_is p.0.booked.job.framework f.id (both_true (same p.0.booked.job.framework f.id) (bytes_eq p.0.booked.job.name task) third.1).0
 
-call_tells : (rs : List Durable) (c : Cluster) (marks : List Mark) → OriginOk rs c.world marks → AllUpTo c.world.run.number c.registers.frameworks → (n : ℕ) (stream : Option Numbered) (call : Call) → slice_get c.posts n ≡ Some (Called stream call) → CallOk (AckedBy rs marks c.posts) c.world.run.number (master_of c) call
+call_tells : (rs : List RecordParts) (c : Cluster) (marks : List Mark) → OriginOk rs c.world marks → AllUpTo c.world.run.number c.registers.frameworks → (n : ℕ) (stream : Option Numbered) (call : Call) → slice_get c.posts n ≡ Some (Called stream call) → CallOk (AckedBy rs marks c.posts) c.world.run.number (master_of c) call
 call_tells rs c marks ok known n stream (Subscribe id role) e = tt
 call_tells rs c marks ok known n stream (Teardown framework) e = tt
 call_tells rs c marks ok known n stream (Accept framework offers tasks seconds) e = λ f is. found_up_to c.world.run.number (λ g. same g.id framework) c.registers.frameworks f known is
@@ -423,13 +419,13 @@ call_tells rs c marks ok known n stream (calls.Kill framework task agent) e = tt
 call_tells rs c marks ok known n stream (Acknowledge framework agent task uuid) e = λ f is any. ack_tells rs c marks ok n stream framework agent task uuid e f is any
 call_tells rs c marks ok known n stream (Reconcile framework tasks) e = tt
 
-post_tells : (rs : List Durable) (c : Cluster) (marks : List Mark) → OriginOk rs c.world marks → AllUpTo c.world.run.number c.registers.frameworks → (n : ℕ) (o : Option Post) → slice_get c.posts n ≡ o → PostOk (AckedBy rs marks c.posts) (master_of c) o
+post_tells : (rs : List RecordParts) (c : Cluster) (marks : List Mark) → OriginOk rs c.world marks → AllUpTo c.world.run.number c.registers.frameworks → (n : ℕ) (o : Option Post) → slice_get c.posts n ≡ o → PostOk (AckedBy rs marks c.posts) (master_of c) o
 post_tells rs c marks ok known n None e = tt
 post_tells rs c marks ok known n (Some (Called stream call)) e = call_tells rs c marks ok known n stream call e
 post_tells rs c marks ok known n (Some (Down agent place)) e = tt
 post_tells rs c marks ok known n (Some (Up agent place)) e = tt
 
-pub number_tells : (rs : List Durable) (c : Cluster) (marks : List Mark) → OriginOk rs c.world marks → AllUpTo c.world.run.number c.registers.frameworks → (number : ℕ) → PostOk (AckedBy rs marks c.posts) (master_of c) (post_at c number)
+pub number_tells : (rs : List RecordParts) (c : Cluster) (marks : List Mark) → OriginOk rs c.world marks → AllUpTo c.world.run.number c.registers.frameworks → (number : ℕ) → PostOk (AckedBy rs marks c.posts) (master_of c) (post_at c number)
 number_tells rs c marks ok known zero = tt
 number_tells rs c marks ok known (suc n) = post_tells rs c marks ok known n (slice_get c.posts n) refl
 
@@ -440,7 +436,7 @@ abbrev pub Before : (Numbered → ℕ → Type 0) → Numbered → ℕ → Type 
 Before A key k = (j : ℕ) → j < k → A key j
 
 -- what is known of an update that is told: each one before it was acknowledged, and it has the state of its number among the updates in its agent's record
-abbrev pub Tellable : List Durable → World → List Happening → List Post → List ℕ → Numbered → ℕ → TaskState → Type 0
+abbrev pub Tellable : List RecordParts → World → List Happening → List Post → List ℕ → Numbered → ℕ → TaskState → Type 0
 Tellable records start hs posts agent key k state = Before (AckedBy records (trail hs start []) posts) key k × (slice_get (updates_on agent key hs start) k ≡ Some state)
 
 -- the updates in the agents' records
@@ -450,7 +446,7 @@ updates_in start hs = λ name key. updates_on name key hs start
 abbrev pub EntryOk : (List ℕ → Numbered → ℕ → TaskState → Type 0) → Entry → Type 0
 EntryOk A e = Each (EventOk A) e.outputs.events
 
-pub record HistoryOk (records : List Durable) (start : World) (h : History) : Type 0 where
+pub record HistoryOk (records : List RecordParts) (start : World) (h : History) : Type 0 where
   pub path : h.state.world ≡ after_all h.happenings start
   pub sent : SentOk (updates_in start h.happenings) h.state.world
   pub verdicts : Each (λ (e : Entry). NotNoRoom e.verdict) h.entries
@@ -470,7 +466,13 @@ taken_wider : (A B : List ℕ → Numbered → ℕ → TaskState → Type 0) →
 taken_wider A B f None h = tt
 taken_wider A B f (Some t) h = event_wider A B f t.event h
 
-extended_ok : (records : List Durable) (start : World) (S : Option Numbered → Call → Type 0) (h : History) (step : Step) (r : Result Done ClusterFault) → Legal (AckedBy records (trail h.happenings start []) h.state.posts) (Tellable records start h.happenings h.state.posts) S h.state r → HistoryOk records start h → HistoryOk records start (extended h step r)
+-- what was acknowledged stays so after a step more
+pub acked_grown : (records : List RecordParts) (start : World) (h : History) (d : Done) (more : List Post) → h.state.world ≡ after_all h.happenings start → d.after.posts ≡ h.state.posts ++ more → (key : Numbered) (k : ℕ) → AckedBy records (trail h.happenings start []) h.state.posts key k → AckedBy records (trail (h.happenings ++ d.happenings) start []) d.after.posts key k
+acked_grown records start h d more path posts key k x =
+    subst (λ ms. AckedBy records ms d.after.posts key k) (sym (trail_append h.happenings d.happenings start []))
+    (subst (λ ps. AckedBy records (trail d.happenings (after_all h.happenings start) (trail h.happenings start [])) ps key k) (sym posts) (acked_more records d.happenings (after_all h.happenings start) (trail h.happenings start []) h.state.posts more key k x))
+
+extended_ok : (records : List RecordParts) (start : World) (S : Option Numbered → Call → Type 0) (h : History) (step : Step) (r : Result Done ClusterFault) → Legal (AckedBy records (trail h.happenings start []) h.state.posts) (Tellable records start h.happenings h.state.posts) S h.state r → HistoryOk records start h → HistoryOk records start (extended h step r)
 extended_ok records start S h step (Ok d) l ok = record {
   path = l.0 ∙ (ap (after_all d.happenings) ok.path ∙ sym (after_append h.happenings d.happenings start));
   sent = subst (SentOk (updates_in start (h.happenings ++ d.happenings))) (sym l.0) (sent_alike (all_over (updates_in start h.happenings) d.happenings h.state.world) (updates_in start (h.happenings ++ d.happenings)) (after_all d.happenings h.state.world) sent_joins (worlds_sent records d.happenings h.state.world marks (updates_in start h.happenings) ok.origin ok.sent));
@@ -499,7 +501,7 @@ extended_ok records start S h step (Ok d) l ok = record {
     trails = subst (λ w. trail d.happenings w (trail h.happenings start []) ≡ trail (h.happenings ++ d.happenings) start []) (sym ok.path) (sym (trail_append h.happenings d.happenings start []))
 
     grown : (key : Numbered) (k : ℕ) → AckedBy records (trail h.happenings start []) h.state.posts key k → AckedBy records (trail (h.happenings ++ d.happenings) start []) d.after.posts key k
-    grown key k x = subst (λ ms. AckedBy records ms d.after.posts key k) trails (subst (λ ps. AckedBy records (trail d.happenings h.state.world marks) ps key k) (sym l.4.1) (acked_more records d.happenings h.state.world marks h.state.posts l.4.0 key k x))
+    grown key k x = acked_grown records start h d l.4.0 ok.path l.4.1 key k x
 
     sent_joins : (name : List ℕ) (key : Numbered) → updates_on name key (h.happenings ++ d.happenings) start ≡ sent_over name key d.happenings h.state.world (updates_on name key h.happenings start)
     sent_joins name key = sent_append name key h.happenings d.happenings start (states_on name key start.channels) ∙ ap (λ w. sent_over name key d.happenings w (updates_on name key h.happenings start)) (sym ok.path)
@@ -521,12 +523,12 @@ mail_tells A u (Report session number tasks total) h l = tt
 mail_tells A u (Applied session count) h l = tt
 mail_tells A u (mails.Update session key k state ended) h l = (h, l)
 
-pub all_tell : (records : List Durable) (start : World) (h : History) → HistoryOk records start h → AllTell (Tellable records start h.happenings h.state.posts) h.state.world
+pub all_tell : (records : List RecordParts) (start : World) (h : History) → HistoryOk records start h → AllTell (Tellable records start h.happenings h.state.posts) h.state.world
 all_tell records start h ok = each_both (Carried Always (AckedBy records (trail h.happenings start []) h.state.posts)) (MailsIn (updates_in start h.happenings)) (λ c. Each (MailOk (Tellable records start h.happenings h.state.posts c.side.name)) c.to_master)
     (λ c a b. each_both (UpTold Always (AckedBy records (trail h.happenings start []) h.state.posts)) (MailAt (updates_in start h.happenings c.side.name)) (MailOk (Tellable records start h.happenings h.state.posts c.side.name)) (mail_tells (AckedBy records (trail h.happenings start []) h.state.posts) (updates_in start h.happenings c.side.name)) c.to_master a.ups b.ups)
     h.state.world.channels ok.acked ok.sent.mails
 
-pub extend_ok : (records : List Durable) (start : World) (ss : List Marked) (h : History) → HistoryOk records start h → HistoryOk records start (extend_all h ss)
+pub extend_ok : (records : List RecordParts) (start : World) (ss : List Marked) (h : History) → HistoryOk records start h → HistoryOk records start (extend_all h ss)
 extend_ok records start [] h ok = ok
 extend_ok records start (s ∷ ss) h ok = extend_ok records start ss (extended h s.step (step_marked h.state s))
     (extended_ok records start (λ stream call. ⊤) h s.step (step_marked h.state s) (step_legal (AckedBy records (trail h.happenings start []) h.state.posts) (Tellable records start h.happenings h.state.posts) (λ stream call. ⊤) h.state (all_room (updates_in start h.happenings) h.state.world ok.sent.world) (number_tells records h.state (trail h.happenings start []) ok.origin ok.known) (all_tell records start h ok) s (λ stream call e. tt)) ok)
@@ -542,18 +544,18 @@ counted_right : (key : Numbered) (k : ℕ) (ts us : List RecordedTask) → WasCo
 counted_right key k [] us h = h
 counted_right key k (t ∷ ts) us h = inr (counted_right key k ts us h)
 
-tasks_acked : (records : List Durable) (posts : List Post) (ts : List RecordedTask) → ((j : Job) → IsOneOf j (map (λ t. t.job) ts) → IsOneOf j (recorded_jobs records)) → ((key : Numbered) (k : ℕ) → WasCounted key k ts → WasCounted key k (recorded_tasks records)) → Each (TaskTold Always (AckedBy records [] posts)) ts
+tasks_acked : (records : List RecordParts) (posts : List Post) (ts : List RecordedTask) → ((j : Job) → IsOneOf j (map (λ t. t.job) ts) → IsOneOf j (recorded_jobs records)) → ((key : Numbered) (k : ℕ) → WasCounted key k ts → WasCounted key k (recorded_tasks records)) → Each (TaskTold Always (AckedBy records [] posts)) ts
 tasks_acked records posts [] f g = tt
 tasks_acked records posts (t ∷ ts) f g = ((tt, λ k lt. (t.job, f t.job (inl refl), refl, inr (g t.job.key k (inl (refl, lt))))), tasks_acked records posts ts (λ j h. f j (inr h)) (λ key k h. g key k (inr h)))
 
-channels_acked : (records : List Durable) (posts : List Post) (ds : List Durable) → ((j : Job) → IsOneOf j (recorded_jobs ds) → IsOneOf j (recorded_jobs records)) → ((key : Numbered) (k : ℕ) → WasCounted key k (recorded_tasks ds) → WasCounted key k (recorded_tasks records)) → Each (Carried Always (AckedBy records [] posts)) (map open_channel ds)
+pub channels_acked : (records : List RecordParts) (posts : List Post) (ds : List RecordParts) → ((j : Job) → IsOneOf j (recorded_jobs ds) → IsOneOf j (recorded_jobs records)) → ((key : Numbered) (k : ℕ) → WasCounted key k (recorded_tasks ds) → WasCounted key k (recorded_tasks records)) → Each (Carried Always (AckedBy records [] posts)) (map open_channel ds)
 channels_acked records posts [] f g = tt
 channels_acked records posts (d ∷ ds) f g = (
   record { booked = tt; waiting = tt; states = (tasks_acked records posts d.tasks (λ j h. f j (in_front_of (map (λ t. t.job) d.tasks) (recorded_jobs ds) j h)) (λ key k h. g key k (counted_left key k d.tasks (recorded_tasks ds) h)), tt); downs = tt; ups = tt; pending = tt },
   channels_acked records posts ds (λ j h. f j (in_behind (map (λ t. t.job) d.tasks) (recorded_jobs ds) j h)) (λ key k h. g key k (counted_right key k d.tasks (recorded_tasks ds) h)),
 )
 
-opening_acked : (setup : Setup) (records : List Durable) → AllAcked (AckedBy records (trail (opening setup records).happenings (open_world setup.run records) []) (opening setup records).state.posts) (opening setup records).state.world
+opening_acked : (setup : Setup) (records : List RecordParts) → AllAcked (AckedBy records (trail (opening setup records).happenings (open_world setup.run records) []) (opening setup records).state.posts) (opening setup records).state.world
 opening_acked setup records = each_map (Carried Always (AckedBy records [] [])) (Carried Always (AckedBy records (trail hs (open_world setup.run records) []) (opening setup records).state.posts))
     (λ c k. told_wider Always Always (AckedBy records [] []) (AckedBy records (trail hs (open_world setup.run records) []) (opening setup records).state.posts) (λ j x. x) (λ key i x. acked_more records hs (open_world setup.run records) [] [] (opening setup records).state.posts key i x) c k)
     (opening setup records).state.world.channels (worlds_acked (AckedBy records [] []) setup.run hs (open_world setup.run records) (hellos_ok (AckedBy records [] []) setup.run (open_world setup.run records).channels) (channels_acked records [] records (λ j h. h) (λ key k h. h)))
@@ -561,7 +563,7 @@ opening_acked setup records = each_map (Carried Always (AckedBy records [] [])) 
     hs : List Happening
     hs = map hello_to (open_world setup.run records).channels
 
-pub opening_ok : (setup : Setup) (records : List Durable) → GoodOpening setup.run records → HistoryOk records (open_world setup.run records) (opening setup records)
+pub opening_ok : (setup : Setup) (records : List RecordParts) → GoodOpening setup.run records → HistoryOk records (open_world setup.run records) (opening setup records)
 opening_ok setup records good = record {
   path = refl;
   sent = worlds_sent records (map hello_to (open_world setup.run records).channels) (open_world setup.run records) [] (λ name key. states_on name key (open_world setup.run records).channels) (origin_opened setup.run records good) (opened_sent records setup.run (origin_opened setup.run records good) (world_opened setup.run records (opening_good setup.run records good)));
@@ -576,7 +578,7 @@ opening_ok setup records good = record {
   launches = worlds_from (AckedBy records [] []) setup.run records (map hello_to (open_world setup.run records).channels) (open_world setup.run records) [] (le_refl setup.run) (hellos_ok (AckedBy records [] []) setup.run (open_world setup.run records).channels) (origin_opened setup.run records good) (opened_from setup.run records (opening_from setup.run records good));
 }
 
-pub history_ok : (setup : Setup) (records : List Durable) (steps : List Marked) → GoodOpening setup.run records → HistoryOk records (open_world setup.run records) (history setup records steps)
+pub history_ok : (setup : Setup) (records : List RecordParts) (steps : List Marked) → GoodOpening setup.run records → HistoryOk records (open_world setup.run records) (history setup records steps)
 history_ok setup records steps good = extend_ok records (open_world setup.run records) steps (opening setup records) (opening_ok setup records good)
 
 -- the laws
@@ -584,16 +586,16 @@ history_ok setup records steps good = extend_ok records (open_world setup.run re
 no_lack : (v : Verdict) → NotNoRoom v → v ≢ AgentRefused NoRoom
 no_lack v h e = subst NotNoRoom e h
 
-pub history_fits : (setup : Setup) (records : List Durable) (steps : List Marked) → GoodOpening setup.run records → AllFit (history setup records steps).state.world
+pub history_fits : (setup : Setup) (records : List RecordParts) (steps : List Marked) → GoodOpening setup.run records → AllFit (history setup records steps).state.world
 history_fits setup records steps good = all_fit (updates_in (open_world setup.run records) (history setup records steps).happenings) (history setup records steps).state.world (history_ok setup records steps good).sent.world
 
-pub history_has_room : (setup : Setup) (records : List Durable) (steps : List Marked) → GoodOpening setup.run records → Each (λ (e : Entry). e.verdict ≢ AgentRefused NoRoom) (history setup records steps).entries
+pub history_has_room : (setup : Setup) (records : List RecordParts) (steps : List Marked) → GoodOpening setup.run records → Each (λ (e : Entry). e.verdict ≢ AgentRefused NoRoom) (history setup records steps).entries
 history_has_room setup records steps good = each_map (λ (e : Entry). NotNoRoom e.verdict) (λ (e : Entry). e.verdict ≢ AgentRefused NoRoom) (λ e h. no_lack e.verdict h) (history setup records steps).entries (history_ok setup records steps good).verdicts
 
-pub history_origin : (setup : Setup) (records : List Durable) (steps : List Marked) → GoodOpening setup.run records → HasOrigin records (history setup records steps).state.world (trail (history setup records steps).happenings (open_world setup.run records) [])
+pub history_origin : (setup : Setup) (records : List RecordParts) (steps : List Marked) → GoodOpening setup.run records → HasOrigin records (history setup records steps).state.world (trail (history setup records steps).happenings (open_world setup.run records) [])
 history_origin setup records steps good = has_origin records (history setup records steps).state.world (trail (history setup records steps).happenings (open_world setup.run records) []) (history_ok setup records steps good).origin
 
-pub history_found : (setup : Setup) (records : List Durable) (steps : List Marked) (later : ℕ) (found : List Durable) → GoodOpening setup.run records → (history setup records steps).state.world.run.number < later → IsFound (history setup records steps).state.world.channels found → GoodOpening later found
+pub history_found : (setup : Setup) (records : List RecordParts) (steps : List Marked) (later : ℕ) (found : List RecordParts) → GoodOpening setup.run records → (history setup records steps).state.world.run.number < later → IsFound (history setup records steps).state.world.channels found → GoodOpening later found
 history_found setup records steps later found good lt is =
     found_good (updates_in (open_world setup.run records) (history setup records steps).happenings) records (trail (history setup records steps).happenings (open_world setup.run records) []) (history setup records steps).state.world later found
     (history_ok setup records steps good).sent.world (history_ok setup records steps good).origin (history_ok setup records steps good).launches
@@ -607,17 +609,17 @@ once_same (x ∷ js) i j h (inl a) (inr l) e = absurd (apart_one x.key js j h.0 
 once_same (x ∷ js) i j h (inr k) (inl b) e = absurd (apart_one x.key js i h.0 k (e ∙ ap (λ (y : Job). y.key) (sym b)))
 once_same (x ∷ js) i j h (inr k) (inr l) e = once_same js i j h.1 k l e
 
-task_acked : (records : List Durable) (marks : List Mark) (posts : List Post) (name : List ℕ) (t : RecordedTask) → KeysOnce (jobs_of marks ++ recorded_jobs records) → From records name marks t.job → TaskTold Always (AckedBy records marks posts) t → (k : ℕ) → k < t.updates.acknowledged → WasSent t.job.framework t.job.key k posts ⊎ WasCounted t.job.key k (recorded_tasks records)
+task_acked : (records : List RecordParts) (marks : List Mark) (posts : List Post) (name : List ℕ) (t : RecordedTask) → KeysOnce (jobs_of marks ++ recorded_jobs records) → From records name marks t.job → TaskTold Always (AckedBy records marks posts) t → (k : ℕ) → k < t.updates.acknowledged → WasSent t.job.framework t.job.key k posts ⊎ WasCounted t.job.key k (recorded_tasks records)
 task_acked records marks posts name t once from told k lt =
     let a = told.1 k lt in
     let is : a.0 ≡ t.job = once_same (jobs_of marks ++ recorded_jobs records) a.0 t.job once a.1 (all_from records marks name t.job from) a.2 in
     subst (λ (j : Job). WasSent j.framework t.job.key k posts ⊎ WasCounted t.job.key k (recorded_tasks records)) is a.3
 
-channel_owned : (records : List Durable) (run : Run) (marks : List Mark) (posts : List Post) (c : Channel) → KeysOnce (jobs_of marks ++ recorded_jobs records) → ChannelOk records run marks c → Carried Always (AckedBy records marks posts) c → Each (λ t. (k : ℕ) → k < t.updates.acknowledged → WasSent t.job.framework t.job.key k posts ⊎ WasCounted t.job.key k (recorded_tasks records)) c.agent.durable.tasks
+channel_owned : (records : List RecordParts) (run : Run) (marks : List Mark) (posts : List Post) (c : Channel) → KeysOnce (jobs_of marks ++ recorded_jobs records) → ChannelOk records run marks c → Carried Always (AckedBy records marks posts) c → Each (λ t. (k : ℕ) → k < t.updates.acknowledged → WasSent t.job.framework t.job.key k posts ⊎ WasCounted t.job.key k (recorded_tasks records)) c.agent.durable.tasks
 channel_owned records run marks posts c once ok acked = each_both (TaskTold (From records c.side.name marks) Any) (TaskTold Always (AckedBy records marks posts)) (λ t. (k : ℕ) → k < t.updates.acknowledged → WasSent t.job.framework t.job.key k posts ⊎ WasCounted t.job.key k (recorded_tasks records))
     (λ t f a. task_acked records marks posts c.side.name t once f.0 a) c.agent.durable.tasks ok.1.states.0 acked.states.0
 
-pub history_acknowledged : (setup : Setup) (records : List Durable) (steps : List Marked) → GoodOpening setup.run records → AcknowledgedByOwner records (history setup records steps).state.world (history setup records steps).state.posts
+pub history_acknowledged : (setup : Setup) (records : List RecordParts) (steps : List Marked) → GoodOpening setup.run records → AcknowledgedByOwner records (history setup records steps).state.world (history setup records steps).state.posts
 history_acknowledged setup records steps good = each_both (ChannelOk records h.state.world.run marks) (Carried Always (AckedBy records marks h.state.posts)) (λ c. Each (λ t. (k : ℕ) → k < t.updates.acknowledged → WasSent t.job.framework t.job.key k h.state.posts ⊎ WasCounted t.job.key k (recorded_tasks records)) c.agent.durable.tasks)
     (λ c ok acked. channel_owned records h.state.world.run marks h.state.posts c all.origin.keys.once ok acked) h.state.world.channels all.origin.channels all.acked
   where
@@ -630,14 +632,14 @@ history_acknowledged setup records steps good = each_both (ChannelOk records h.s
     all : HistoryOk records (open_world setup.run records) (history setup records steps)
     all = history_ok setup records steps good
 
-pub history_premises : (setup : Setup) (records : List Durable) (steps : List Marked) → GoodOpening setup.run records → Each (MeetsPremises (history setup records steps).state.world.channels) (history setup records steps).state.world.channels
+pub history_premises : (setup : Setup) (records : List RecordParts) (steps : List Marked) → GoodOpening setup.run records → Each (MeetsPremises (history setup records steps).state.world.run.next_key (history setup records steps).state.world.channels) (history setup records steps).state.world.channels
 history_premises setup records steps good =
     let ok = history_ok setup records steps good in
     all_premises (updates_in (open_world setup.run records) (history setup records steps).happenings) records (trail (history setup records steps).happenings (open_world setup.run records) []) (history setup records steps).state.world ok.sent.world ok.origin
 
 -- updates have the states of their numbers
 
-event_tells : (records : List Durable) (start : World) (hs : List Happening) (posts : List Post) → OriginOk records start [] → (e : Event) → TellOk (Tellable records start hs posts) e → HasUpdateOf hs start e
+event_tells : (records : List RecordParts) (start : World) (hs : List Happening) (posts : List Post) → OriginOk records start [] → (e : Event) → TellOk (Tellable records start hs posts) e → HasUpdateOf hs start e
 event_tells records start hs posts origin (events.Subscribed framework) h = tt
 event_tells records start hs posts origin (events.Offers offers) h = tt
 event_tells records start hs posts origin (events.Rescind offer) h = tt
@@ -652,42 +654,36 @@ event_tells records start hs posts origin (events.Error message) h = tt
 event_tells records start hs posts origin events.Heartbeat h = tt
 
 -- what is told over a whole history
-abbrev pub ToldOver : Setup → List Durable → List Marked → List ℕ → Numbered → ℕ → TaskState → Type 0
+abbrev pub ToldOver : Setup → List RecordParts → List Marked → List ℕ → Numbered → ℕ → TaskState → Type 0
 ToldOver setup records steps = Tellable records (open_world setup.run records) (history setup records steps).happenings (history setup records steps).state.posts
 
-abbrev pub IsTelling : Setup → List Durable → List Marked → StreamEvent → Type 0
+abbrev pub IsTelling : Setup → List RecordParts → List Marked → StreamEvent → Type 0
 IsTelling setup records steps t = HasUpdateOf (history setup records steps).happenings (open_world setup.run records) t.event
 
-all_telling : (setup : Setup) (records : List Durable) (steps : List Marked) → GoodOpening setup.run records → (ts : List StreamEvent) → Each (EventOk (ToldOver setup records steps)) ts → Each (IsTelling setup records steps) ts
+all_telling : (setup : Setup) (records : List RecordParts) (steps : List Marked) → GoodOpening setup.run records → (ts : List StreamEvent) → Each (EventOk (ToldOver setup records steps)) ts → Each (IsTelling setup records steps) ts
 all_telling setup records steps good ts h = each_map (EventOk (ToldOver setup records steps)) (IsTelling setup records steps) (λ t x. event_tells records (open_world setup.run records) (history setup records steps).happenings (history setup records steps).state.posts (origin_opened setup.run records good) t.event x) ts h
 
-pub history_tells : (setup : Setup) (records : List Durable) (steps : List Marked) → GoodOpening setup.run records → SendsUpdates (open_world setup.run records) (history setup records steps)
+pub history_tells : (setup : Setup) (records : List RecordParts) (steps : List Marked) → GoodOpening setup.run records → SendsUpdates (open_world setup.run records) (history setup records steps)
 history_tells setup records steps good = (all_telling setup records steps good (history setup records steps).opened.events (history_ok setup records steps good).begun, each_map (EntryOk (ToldOver setup records steps)) (λ (e : Entry). Each (IsTelling setup records steps) e.outputs.events) (λ e h. all_telling setup records steps good e.outputs.events h) (history setup records steps).entries (history_ok setup records steps good).told)
 
-taken_telling : (setup : Setup) (records : List Durable) (steps : List Marked) → GoodOpening setup.run records → (o : Option StreamEvent) → IfSome o (EventOk (ToldOver setup records steps)) → IfSome o (IsTelling setup records steps)
+taken_telling : (setup : Setup) (records : List RecordParts) (steps : List Marked) → GoodOpening setup.run records → (o : Option StreamEvent) → IfSome o (EventOk (ToldOver setup records steps)) → IfSome o (IsTelling setup records steps)
 taken_telling setup records steps good None h = tt
 taken_telling setup records steps good (Some t) h = event_tells records (open_world setup.run records) (history setup records steps).happenings (history setup records steps).state.posts (origin_opened setup.run records good) t.event h
 
-pub history_hands : (setup : Setup) (records : List Durable) (steps : List Marked) → GoodOpening setup.run records → HandsUpdates (open_world setup.run records) (history setup records steps)
+pub history_hands : (setup : Setup) (records : List RecordParts) (steps : List Marked) → GoodOpening setup.run records → HandsUpdates (open_world setup.run records) (history setup records steps)
 history_hands setup records steps good = each_map (HandedOk (ToldOver setup records steps)) (λ (e : Entry). IfSome e.outputs.taken (IsTelling setup records steps)) (λ e h. taken_telling setup records steps good e.outputs.taken h) (history setup records steps).entries (history_ok setup records steps good).handed
 
-pub history_there : (setup : Setup) (records : List Durable) (steps : List Marked) (agent : List ℕ) (j : Job) → GoodOpening setup.run records → From records agent (trail (history setup records steps).happenings (open_world setup.run records) []) j → updates_of j.key (history setup records steps).happenings (open_world setup.run records) ≡ updates_on agent j.key (history setup records steps).happenings (open_world setup.run records)
+pub history_there : (setup : Setup) (records : List RecordParts) (steps : List Marked) (agent : List ℕ) (j : Job) → GoodOpening setup.run records → From records agent (trail (history setup records steps).happenings (open_world setup.run records) []) j → updates_of j.key (history setup records steps).happenings (open_world setup.run records) ≡ updates_on agent j.key (history setup records steps).happenings (open_world setup.run records)
 history_there setup records steps agent j good from = updates_there records (history setup records steps).happenings (open_world setup.run records) agent j (origin_opened setup.run records good) from
 
-pub history_has_all : (setup : Setup) (records : List Durable) (steps : List Marked) → GoodOpening setup.run records → HaveAllUpdates (history setup records steps).happenings (open_world setup.run records) (history setup records steps).state.world
-history_has_all setup records steps good = each_both (ChannelOk records h.state.world.run marks) (λ c. Each (IsExact (updates_in first h.happenings c.side.name)) c.agent.durable.tasks) (λ c. Each (λ t. t.updates.states ≡ updates_of t.job.key h.happenings first) c.agent.durable.tasks)
-    (λ c o x. each_both (λ t. From records c.side.name marks t.job) (IsExact (updates_in first h.happenings c.side.name)) (λ t. t.updates.states ≡ updates_of t.job.key h.happenings first)
-    (λ t from e. e ∙ sym (updates_there records h.happenings first c.side.name t.job (origin_opened setup.run records good) from)) c.agent.durable.tasks (tasks_from records h.state.world.run marks c o) x)
-    h.state.world.channels ok.origin.channels (all_exact (updates_in first h.happenings) h.state.world ok.sent)
-  where
-    h : History
-    h = history setup records steps
+-- each task of a record has all updates of its key
+pub have_all : (records : List RecordParts) (start : World) (hs : List Happening) (w : World) → OriginOk records start [] → OriginOk records w (trail hs start []) → SentOk (updates_in start hs) w → HaveAllUpdates hs start w
+have_all records start hs w first now sent = each_both (ChannelOk records w.run (trail hs start [])) (λ c. Each (IsExact (updates_in start hs c.side.name)) c.agent.durable.tasks) (λ c. Each (λ t. t.updates.states ≡ updates_of t.job.key hs start) c.agent.durable.tasks)
+    (λ c o x. each_both (λ t. From records c.side.name (trail hs start []) t.job) (IsExact (updates_in start hs c.side.name)) (λ t. t.updates.states ≡ updates_of t.job.key hs start)
+    (λ t from e. e ∙ sym (updates_there records hs start c.side.name t.job first from)) c.agent.durable.tasks (tasks_from records w.run (trail hs start []) c o) x)
+    w.channels now.channels (all_exact (updates_in start hs) w sent)
 
-    first : World
-    first = open_world setup.run records
-
-    marks : List Mark
-    marks = trail (history setup records steps).happenings (open_world setup.run records) []
-
-    ok : HistoryOk records (open_world setup.run records) (history setup records steps)
-    ok = history_ok setup records steps good
+pub history_has_all : (setup : Setup) (records : List RecordParts) (steps : List Marked) → GoodOpening setup.run records → HaveAllUpdates (history setup records steps).happenings (open_world setup.run records) (history setup records steps).state.world
+history_has_all setup records steps good =
+    let ok = history_ok setup records steps good in
+    have_all records (open_world setup.run records) (history setup records steps).happenings (history setup records steps).state.world (origin_opened setup.run records good) ok.origin ok.sent

@@ -5,17 +5,17 @@ use Rattle.std.proofs.lemmas.Bool.{cond_both, cases_Bool, cond-true}
 use Rattle.std.proofs.lemmas.Bool.Decides.{Decides-eqb}
 use Rattle.std.proofs.lemmas.List.{drop-append-le, take-append-le}
 use Rattle.names_core.specs.Ids.{Numbered}
-use Rattle.mails.specs.declared.task.Booked.{Booked}
-use Rattle.mails.specs.declared.mail.Command.{Command}
-use Rattle.mails.specs.declared.mail.Command.TheVariants.{Launch, Kill, Ack, EndFramework}
-use Rattle.mails.specs.declared.mail.MasterMail.{MasterMail}
-use Rattle.mails.specs.declared.mail.MasterMail.TheVariants.{Hello, Issued}
-use Rattle.mails.specs.declared.mail.AgentMail.{AgentMail}
-use Rattle.mails.specs.declared.mail.AgentMail.TheVariants.{Report, Applied, Update}
+use Rattle.messages.specs.declared.task.Booked.{Booked}
+use Rattle.messages.specs.declared.mail.Command.{Command}
+use Rattle.messages.specs.declared.mail.Command.TheVariants.{Launch, Kill, Ack, EndFramework}
+use Rattle.messages.specs.declared.mail.MasterMail.{MasterMail}
+use Rattle.messages.specs.declared.mail.MasterMail.TheVariants.{Hello, Issued}
+use Rattle.messages.specs.declared.mail.AgentMail.{AgentMail}
+use Rattle.messages.specs.declared.mail.AgentMail.TheVariants.{Report, Applied, Update}
 use Rattle.cluster_model.specs.Agents.{Agent}
 use Rattle.cluster_model.specs.Sides.{Side, unended, job_rows, just_booked}
 use Rattle.cluster_model.specs.Channels.{InRun}
-use Rattle.cluster_safe.specs.Facts.{Less, UpTo, Stake, Past, Within, live, launches, stakes, Distinct, InOrder, EndsKept, Ordered, EndsTorn, AtMost, EndedAt, Grown, StateOk, DownOk, IsReportOf, UpOk, drafted, mails_of, states_of, PastOk, OpenOk, Facts}
+use Rattle.cluster_safe.specs.Facts.{Less, UpTo, TaskInFlight, Past, Within, live, launches, stakes, Distinct, InOrder, EndsKept, Ordered, EndsTorn, AtMost, EndedAt, Grown, StateOk, DownOk, IsReportOf, UpOk, drafted, mails_of, states_of, PastOk, OpenOk, Facts}
 use Rattle.cluster_safe.proofs.Ids.{less_upto, upto_trans, less_differs}
 use Rattle.cluster_safe.proofs.Orders.{each_append, each_map, each_both, within_refl, within_more, within_append}
 use Rattle.cluster_safe.proofs.Amounts.{within_at_most}
@@ -28,10 +28,10 @@ issued_past p w = record { ever = λ s. cond (eqb s p.peak) (p.ever s ++ w ∷ [
 pub ever_cases : (p : Past) (w : Command) (s : ℕ) (P : List Command → Type 0) → (s ≡ p.peak → P (p.ever s ++ w ∷ [])) → P (p.ever s) → P ((issued_past p w).ever s)
 ever_cases p w s P f g = cond_both (eqb s p.peak) (p.ever s ++ w ∷ []) (p.ever s) P (λ e. f ((Decides-eqb s p.peak).0 e)) (λ e. g)
 
-pub stakes_cases : (p : Past) (w : Command) (a : Agent) → (a.in_session ≡ true → a.applied ≤ length (p.ever a.session)) → (P : List Stake → Type 0) → (a.session ≡ p.peak → P (stakes p a ++ launches (w ∷ []))) → P (stakes p a) → P (stakes (issued_past p w) a)
+pub stakes_cases : (p : Past) (w : Command) (a : Agent) → (a.in_session ≡ true → a.applied ≤ length (p.ever a.session)) → (P : List TaskInFlight → Type 0) → (a.session ≡ p.peak → P (stakes p a ++ launches (w ∷ []))) → P (stakes p a) → P (stakes (issued_past p w) a)
 stakes_cases p w a le P f g = at_up a.in_session refl
   where
-    tasks : List Stake
+    tasks : List TaskInFlight
     tasks = map Rattle.cluster_safe.specs.Facts.task_stake a.tasks
 
     at_up : (b : Bool) → a.in_session ≡ b → P (stakes (issued_past p w) a)
@@ -49,7 +49,7 @@ bookings (Kill key) = []
 bookings (Ack key k) = []
 bookings (EndFramework framework) = []
 
-pub live-append : (xs ys : List Stake) → live (xs ++ ys) ≡ live xs ++ live ys
+pub live-append : (xs ys : List TaskInFlight) → live (xs ++ ys) ≡ live xs ++ live ys
 live-append [] ys = refl
 live-append (x ∷ xs) ys = elim (cases_Bool x.ended) [ inl e ↦ rw e (live-append xs ys) | inr e ↦ rw e (ap (λ js. x.job ∷ js) (live-append xs ys)) ]
 
@@ -63,12 +63,12 @@ unended_bookings (Kill key) = refl
 unended_bookings (Ack key k) = refl
 unended_bookings (EndFramework framework) = refl
 
-distinct_more : (next : Numbered) (xs new : List Stake) → Distinct xs → Each (λ s. Less s.job.key next) xs → Distinct new → Each (λ s. UpTo next s.job.key) new → Distinct (xs ++ new)
+distinct_more : (next : Numbered) (xs new : List TaskInFlight) → Distinct xs → Each (λ s. Less s.job.key next) xs → Distinct new → Each (λ s. UpTo next s.job.key) new → Distinct (xs ++ new)
 distinct_more next [] new d b e n = e
 distinct_more next (x ∷ xs) new d b e n =
     (each_append (λ t. t.job.key ≢ x.job.key) xs new d.0 (each_map (λ s. UpTo next s.job.key) (λ t. t.job.key ≢ x.job.key) (λ s le. less_differs x.job.key next s.job.key b.0 le) new n), distinct_more next xs new d.1 b.1 e n)
 
-order_more : (next : Numbered) (xs new : List Stake) → InOrder xs → Each (λ s. Less s.job.key next) xs → InOrder new → Each (λ s. UpTo next s.job.key) new → InOrder (xs ++ new)
+order_more : (next : Numbered) (xs new : List TaskInFlight) → InOrder xs → Each (λ s. Less s.job.key next) xs → InOrder new → Each (λ s. UpTo next s.job.key) new → InOrder (xs ++ new)
 order_more next [] new d b e n = e
 order_more next (x ∷ xs) new d b e n = (
   each_append (λ t. t.comes ≡ true → Less x.job.key t.job.key) xs new d.0
@@ -129,7 +129,7 @@ state_issued p l w next torn past o c a s cov = record {
   grown = cases (Each (Grown p.sent)) (λ same. each_append (Grown p.sent) (stakes p a) (launches (w ∷ [])) s.grown c.unsent) s.grown;
 }
   where
-    cases : (P : List Stake → Type 0) → (a.session ≡ p.peak → P (stakes p a ++ launches (w ∷ []))) → P (stakes p a) → P (stakes (issued_past p w) a)
+    cases : (P : List TaskInFlight → Type 0) → (a.session ≡ p.peak → P (stakes p a ++ launches (w ∷ []))) → P (stakes p a) → P (stakes (issued_past p w) a)
     cases = stakes_cases p w a s.applied
 
     below_next : Each (λ s. Less s.job.key next) (stakes p a)

@@ -10,18 +10,18 @@ use Rattle.names_core.specs.declared.state.TaskState.{TaskState}
 use Rattle.names_core.specs.States.{is_terminal}
 use Rattle.quantity.specs.declared.rows.Row.{Row}
 use Rattle.quantity.specs.Rows.{amount, covers}
-use Rattle.mails.specs.declared.task.Job.{Job}
-use Rattle.mails.specs.declared.task.Offer.{Offer}
-use Rattle.mails.specs.declared.task.Booked.{Booked}
-use Rattle.mails.specs.declared.mail.Command.{Command}
-use Rattle.mails.specs.declared.mail.Command.TheVariants.{Launch, Kill, Ack, EndFramework}
-use Rattle.mails.specs.declared.mail.MasterMail.{MasterMail}
-use Rattle.mails.specs.declared.mail.MasterMail.TheVariants.{Issued}
-use Rattle.mails.specs.declared.mail.AgentMail.{AgentMail}
-use Rattle.mails.specs.declared.mail.AgentMail.TheVariants.{Report, Applied, Update}
-use Rattle.mails.specs.declared.refusal.AgentRefusal.{AgentRefusal}
-use Rattle.mails.specs.declared.cause.Cause.{Cause}
-use Rattle.mails.specs.declared.cause.Cause.TheVariants.{Start, Mail, Executor, Again}
+use Rattle.messages.specs.declared.task.Job.{Job}
+use Rattle.messages.specs.declared.task.Offer.{Offer}
+use Rattle.messages.specs.declared.task.Booked.{Booked}
+use Rattle.messages.specs.declared.mail.Command.{Command}
+use Rattle.messages.specs.declared.mail.Command.TheVariants.{Launch, Kill, Ack, EndFramework}
+use Rattle.messages.specs.declared.mail.MasterMail.{MasterMail}
+use Rattle.messages.specs.declared.mail.MasterMail.TheVariants.{Issued}
+use Rattle.messages.specs.declared.mail.AgentMail.{AgentMail}
+use Rattle.messages.specs.declared.mail.AgentMail.TheVariants.{Report, Applied, Update}
+use Rattle.messages.specs.declared.refusal.AgentRefusal.{AgentRefusal}
+use Rattle.messages.specs.declared.cause.Cause.{Cause}
+use Rattle.messages.specs.declared.cause.Cause.TheVariants.{Start, Mail, Executor, Again}
 use Rattle.cluster_model.specs.Ids.{first_of_run, following, is_among, is_repeated, is_empty}
 use Rattle.cluster_model.specs.Agents.{Agent, Draft, live_tasks, recovered, receives_mail, next_of}
 use Rattle.cluster_model.specs.Sides.{Run, Side, new_run, torn_down, unended, job_rows, offer_rows, taken, Sending, sends_nothing, issue, oldest_again, may_launch, books, launch_all, is_named, has_offer, is_good, used_offers, without_used, accepted, may_offer, offered, withdrawn, received_update, forget, forget_all, last_session, opens, opened, counts, shut, lost, halted, restarted, SideStep, MakeOffer, Withdraw, LaunchFrom, SendKill, SendAck, SendEnd, SendHello, SendAgain, Lose, side_step}

@@ -9,21 +9,21 @@ use Rattle.names_core.specs.declared.state.TaskState.{TaskState}
 use Rattle.names_core.specs.declared.state.TaskState.TheVariants.{Killed}
 use Rattle.stream_core.specs.Updates.{pushed, acknowledged_one, is_front, is_full, is_done}
 use Rattle.quantity.specs.declared.rows.Row.{Row}
-use Rattle.mails.specs.declared.task.Job.{Job}
-use Rattle.mails.specs.declared.task.Offer.{Offer}
-use Rattle.mails.specs.declared.mail.Command.{Command}
-use Rattle.mails.specs.declared.mail.Command.TheVariants.{Launch, Kill, Ack, EndFramework}
-use Rattle.mails.specs.declared.mail.MasterMail.{MasterMail}
-use Rattle.mails.specs.declared.mail.MasterMail.TheVariants.{Hello, Issued}
-use Rattle.mails.specs.declared.mail.AgentMail.{AgentMail}
-use Rattle.mails.specs.declared.mail.AgentMail.TheVariants.{Report, Applied, Update}
-use Rattle.mails.specs.declared.record.RecordedTask.{RecordedTask}
-use Rattle.mails.specs.declared.record.Durable.{Durable}
-use Rattle.mails.specs.declared.cause.Cause.{Cause}
-use Rattle.mails.specs.declared.cause.Cause.TheVariants.{Start, Mail, Executor, Again}
-use Rattle.mails.specs.Causes.{task_state}
-use Rattle.mails.specs.declared.refusal.AgentRefusal.{AgentRefusal}
-use Rattle.mails.specs.declared.refusal.AgentRefusal.TheVariants.{OldSession, NotNext, NoSuchTask, Ended, NoRoom, UpdatesFull, SessionsSpent}
+use Rattle.messages.specs.declared.task.Job.{Job}
+use Rattle.messages.specs.declared.task.Offer.{Offer}
+use Rattle.messages.specs.declared.mail.Command.{Command}
+use Rattle.messages.specs.declared.mail.Command.TheVariants.{Launch, Kill, Ack, EndFramework}
+use Rattle.messages.specs.declared.mail.MasterMail.{MasterMail}
+use Rattle.messages.specs.declared.mail.MasterMail.TheVariants.{Hello, Issued}
+use Rattle.messages.specs.declared.mail.AgentMail.{AgentMail}
+use Rattle.messages.specs.declared.mail.AgentMail.TheVariants.{Report, Applied, Update}
+use Rattle.messages.specs.declared.record.RecordedTask.{RecordedTask}
+use Rattle.messages.specs.declared.record.RecordParts.{RecordParts}
+use Rattle.messages.specs.declared.cause.Cause.{Cause}
+use Rattle.messages.specs.declared.cause.Cause.TheVariants.{Start, Mail, Executor, Again}
+use Rattle.messages.specs.Causes.{task_state}
+use Rattle.messages.specs.declared.refusal.AgentRefusal.{AgentRefusal}
+use Rattle.messages.specs.declared.refusal.AgentRefusal.TheVariants.{OldSession, NotNext, NoSuchTask, Ended, NoRoom, UpdatesFull, SessionsSpent}
 use Rattle.cluster_model.specs.Ids.{following, is_among, is_empty, is_repeated, last_number}
 use Rattle.cluster_model.specs.Agents.{Agent, Draft, has_ended, is_task, front_at, owning, reopened, reports, opens_next, starts, stated, acknowledged, launched_task, tasks_after, with_tasks, applies, has_room, receives_mail, needs_place, executes, next_of}
 use Rattle.cluster_model.specs.Sides.{Run, Side, Sending, sends_nothing, issue, oldest_again, may_launch, books, Launching, launch_one, launch_all, has_offer, is_good, used_offers, without_used, accepted, may_offer, offer_rows, received_update, forget_all, last_session, opens, opened, counts, shut, SideStep, MakeOffer, Withdraw, LaunchFrom, SendKill, SendAck, SendEnd, SendHello, SendAgain, Lose, side_step}
@@ -318,7 +318,7 @@ number_rises (h ∷ hs) w = le_trans (number_after w h) (number_rises hs (after 
 below_run : (id next : Numbered) (n : ℕ) → Less id next → next.run ≡ n → id.run ≤ n
 below_run id next n lt e = grind (arith, nat_tests)
 
-offers_from : (rs : List Durable) (w : World) (marks : List Mark) → OriginOk rs w marks → Each (λ (c : Channel). OffersFrom w.run.number c.side.offers) w.channels
+offers_from : (rs : List RecordParts) (w : World) (marks : List Mark) → OriginOk rs w marks → Each (λ (c : Channel). OffersFrom w.run.number c.side.offers) w.channels
 offers_from rs w marks ok = each_map (ChannelOk rs w.run marks) (λ (c : Channel). OffersFrom w.run.number c.side.offers)
     (λ c k. each_map (OfferOk w.run.next_offer marks c.side.name) (λ (o : Offer). o.id.run ≤ w.run.number) (λ o x. below_run o.id w.run.next_offer w.run.number x.2 ok.offer_run) c.side.offers k.0.0) w.channels ok.channels
 
@@ -342,7 +342,7 @@ happening_later A n m le Halt t = tt
 abbrev pub AllFrom : World → Type 0
 AllFrom w = Each (ChannelFrom w.run.number) w.channels
 
-pub worlds_from : (A : Numbered → ℕ → Type 0) (n : ℕ) (rs : List Durable) (hs : List Happening) (w : World) (marks : List Mark) → n ≤ w.run.number → Each (HappeningOk A n) hs → OriginOk rs w marks → AllFrom w → AllFrom (after_all hs w)
+pub worlds_from : (A : Numbered → ℕ → Type 0) (n : ℕ) (rs : List RecordParts) (hs : List Happening) (w : World) (marks : List Mark) → n ≤ w.run.number → Each (HappeningOk A n) hs → OriginOk rs w marks → AllFrom w → AllFrom (after_all hs w)
 worlds_from A n rs [] w marks le t ok k = k
 worlds_from A n rs (h ∷ hs) w marks le t ok k =
     worlds_from A n rs hs (after w h) (marks_by w h ++ marks) (le_trans le (number_after w h)) t.1 (origin_all rs (h ∷ []) w marks ok)
@@ -351,9 +351,9 @@ worlds_from A n rs (h ∷ hs) w marks le t ok k =
 
 -- the opening
 
-abbrev pub RecordFrom : ℕ → Durable → Type 0
+abbrev pub RecordFrom : ℕ → RecordParts → Type 0
 RecordFrom n d = Each (TaskFrom n) d.tasks
 
-pub opened_from : (n : ℕ) (ds : List Durable) → Each (RecordFrom n) ds → Each (ChannelFrom n) (map open_channel ds)
+pub opened_from : (n : ℕ) (ds : List RecordParts) → Each (RecordFrom n) ds → Each (ChannelFrom n) (map open_channel ds)
 opened_from n [] h = tt
 opened_from n (d ∷ ds) h = (record { waiting = tt; states = (h.0, tt); downs = tt }, opened_from n ds h.1)

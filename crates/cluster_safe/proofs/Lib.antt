@@ -35,3 +35,19 @@ pub mod Counts
 pub mod Gapless
 pub mod Offered
 pub mod Growth
+pub mod AllIssued
+pub mod DraftOrigins
+pub mod AcknowledgedAt
+pub mod AcknowledgedGrowth
+mod Lists
+mod OriginSent
+mod Silent
+mod Quiet
+mod Calls
+mod Offers
+mod Entries
+mod Gone
+mod Waits
+mod Tasks
+mod Once
+mod OriginAcks

@@ -5,16 +5,16 @@ use Rattle.std.specs.List.{AllByRecursion as Each, list_any}
 use Rattle.std.proofs.lemmas.Bool.{cond_both}
 use Rattle.names_core.specs.Ids.{Numbered}
 use Rattle.names_core.specs.declared.state.TaskState.{TaskState}
-use Rattle.mails.specs.declared.mail.MasterMail.{MasterMail}
-use Rattle.mails.specs.declared.mail.MasterMail.TheVariants.{Hello, Issued}
-use Rattle.mails.specs.declared.mail.AgentMail.{AgentMail}
-use Rattle.mails.specs.declared.mail.AgentMail.TheVariants.{Report, Applied, Update}
-use Rattle.mails.specs.declared.record.Durable.{Durable}
-use Rattle.mails.specs.declared.refusal.AgentRefusal.{AgentRefusal}
-use Rattle.mails.specs.declared.cause.Cause.{Cause}
-use Rattle.mails.specs.declared.cause.Cause.TheVariants.{Start, Mail, Executor, Again}
-use Rattle.mails.specs.Causes.{task_state}
-use Rattle.mails.specs.declared.refusal.AgentRefusal.TheVariants.{OldSession, NotNext, NoSuchTask, Ended, NoRoom, UpdatesFull, SessionsSpent}
+use Rattle.messages.specs.declared.mail.MasterMail.{MasterMail}
+use Rattle.messages.specs.declared.mail.MasterMail.TheVariants.{Hello, Issued}
+use Rattle.messages.specs.declared.mail.AgentMail.{AgentMail}
+use Rattle.messages.specs.declared.mail.AgentMail.TheVariants.{Report, Applied, Update}
+use Rattle.messages.specs.declared.record.RecordParts.{RecordParts}
+use Rattle.messages.specs.declared.refusal.AgentRefusal.{AgentRefusal}
+use Rattle.messages.specs.declared.cause.Cause.{Cause}
+use Rattle.messages.specs.declared.cause.Cause.TheVariants.{Start, Mail, Executor, Again}
+use Rattle.messages.specs.Causes.{task_state}
+use Rattle.messages.specs.declared.refusal.AgentRefusal.TheVariants.{OldSession, NotNext, NoSuchTask, Ended, NoRoom, UpdatesFull, SessionsSpent}
 use Rattle.stream_core.specs.Updates.{is_full}
 use Rattle.cluster_model.specs.Ids.{last_number}
 use Rattle.cluster_model.specs.Agents.{Agent, Draft, has_ended, is_task, front_at, owning, reopened, reports, opens_next, starts, stated, with_tasks, applies, has_room, receives_mail, needs_place, executes, next_of}
@@ -136,6 +136,6 @@ pub worlds_named : (hs : List Happening) (w : World) → AllNamed w.channels →
 worlds_named [] w k = k
 worlds_named (h ∷ hs) w k = worlds_named hs (after w h) (world_named w h k)
 
-pub open_named : (ds : List Durable) → AllNamed (map open_channel ds)
+pub open_named : (ds : List RecordParts) → AllNamed (map open_channel ds)
 open_named [] = tt
 open_named (d ∷ ds) = ((refl, tt), open_named ds)

@@ -6,8 +6,8 @@ use Rattle.std.proofs.lemmas.Bool.{cond_both}
 use Rattle.std.proofs.Math.Seq.{drop-append_seam}
 use Rattle.names_core.specs.Ids.{Numbered, same}
 use Rattle.quantity.specs.declared.rows.Row.{Row}
-use Rattle.mails.specs.declared.task.Offer.{Offer}
-use Rattle.role_weights.specs.Weights.{RoleWeight}
+use Rattle.messages.specs.declared.task.Offer.{Offer}
+use Rattle.names_core.specs.Weights.{RoleWeight}
 use Rattle.cluster_model.specs.Ids.{following, last_number}
 use Rattle.cluster_model.specs.Events.{MadeOffer, Offers, StreamEvent, offer_of}
 use Rattle.cluster_model.specs.Sides.{Run, Side, MakeOffer, may_offer, offered, sends_nothing}

@@ -1,14 +1,14 @@
 -- A good opening has the facts.
 use Rattle.std.proofs.Common.{◌≡◌, ℕ, zero-le, le_refl, true, false, List, [], ◌∷◌, ◌++◌, map, refl, sym, subst, inr, append-nil, le_of_lt}
 use Rattle.std.specs.List.{AllByRecursion as Each}
-use Rattle.mails.specs.declared.record.Durable.{Durable}
-use Rattle.mails.specs.declared.record.RecordedTask.{RecordedTask}
+use Rattle.messages.specs.declared.record.RecordParts.{RecordParts}
+use Rattle.messages.specs.declared.record.RecordedTask.{RecordedTask}
 use Rattle.cluster_model.specs.Ids.{first_of_run}
 use Rattle.cluster_model.specs.Sides.{new_run, job_rows}
 use Rattle.cluster_model.specs.Channels.{open_channel}
-use Rattle.cluster_safe.specs.Facts.{Less, Stake, live, task_stake, Distinct, InOrder, AtMost, Grown, Kept, IsGood}
+use Rattle.cluster_safe.specs.Facts.{Less, TaskInFlight, live, task_stake, Distinct, InOrder, AtMost, Grown, Kept, IsGood}
 
-all_grown : (ss : List Stake) → Each (Grown (λ key. [])) ss
+all_grown : (ss : List TaskInFlight) → Each (Grown (λ key. [])) ss
 all_grown [] = tt
 all_grown (s ∷ ss) = ((s.states, refl), all_grown ss)
 
@@ -21,7 +21,7 @@ none_comes (t ∷ ts) = (apart ts, none_comes ts)
     apart [] = tt
     apart (u ∷ us) = ((λ (e : false ≡ true). absurd cc), apart us)
 
-pub kept_opening : (d : Durable) (run : ℕ) → IsGood run d → Kept (λ key. []) (record { run = new_run run; channel = open_channel d })
+pub kept_opening : (d : RecordParts) (run : ℕ) → IsGood run d → Kept (λ key. []) (record { run = new_run run; channel = open_channel d })
 kept_opening o run g = (
   record { ever = λ s. []; peak = 0; told = λ s. o.run; latest = run; sent = λ key. [] },
   record {
@@ -53,5 +53,5 @@ kept_opening o run g = (
   refl,
 )
   where
-    at : (P : List Stake → Type 0) → P (map task_stake o.tasks) → P (map task_stake o.tasks ++ [])
+    at : (P : List TaskInFlight → Type 0) → P (map task_stake o.tasks) → P (map task_stake o.tasks ++ [])
     at P h = subst P (sym (append-nil (map task_stake o.tasks))) h

@@ -6,9 +6,9 @@ use Rattle.std.specs.Cmp.Lexicographic.{bytes_decides}
 use Rattle.std.proofs.lemmas.Bool.Decides.{nat_tests}
 use Rattle.names_core.specs.Ids.{Numbered}
 use Rattle.quantity.specs.Rows.{amount}
-use Rattle.mails.specs.declared.task.Job.{Job}
-use Rattle.mails.specs.declared.record.Durable.{Durable}
-use Rattle.mails.specs.declared.record.RecordedTask.{RecordedTask}
+use Rattle.messages.specs.declared.task.Job.{Job}
+use Rattle.messages.specs.declared.record.RecordParts.{RecordParts}
+use Rattle.messages.specs.declared.record.RecordedTask.{RecordedTask}
 use Rattle.cluster_model.specs.Ids.{first_of_run}
 use Rattle.cluster_model.specs.Sides.{new_run, job_rows}
 use Rattle.cluster_model.specs.Channels.{open_channel, open_world}
@@ -47,10 +47,10 @@ pub once_right : (js is : List Job) → KeysOnce (js ++ is) → KeysOnce is
 once_right [] is h = h
 once_right (j ∷ js) is h = once_right js is h.1
 
-stakes_fit : (d : Durable) → RecordFits d → AtMost (job_rows (live (map task_stake d.tasks))) d.total
+stakes_fit : (d : RecordParts) → RecordFits d → AtMost (job_rows (live (map task_stake d.tasks))) d.total
 stakes_fit d h name = subst (λ n. n ≤ amount name d.total) (tasks_weigh name d.tasks) (h name)
 
-pub all_good : (run : ℕ) (ds : List Durable) → Each RecordFits ds → Each (λ d. d.run < run) ds → Each (λ j. j.key.run < run) (recorded_jobs ds) → KeysOnce (recorded_jobs ds) → AllGood run ds
+pub all_good : (run : ℕ) (ds : List RecordParts) → Each RecordFits ds → Each (λ d. d.run < run) ds → Each (λ j. j.key.run < run) (recorded_jobs ds) → KeysOnce (recorded_jobs ds) → AllGood run ds
 all_good run [] f o k u = tt
 all_good run (d ∷ ds) f o k u = (
   record {
@@ -62,7 +62,7 @@ all_good run (d ∷ ds) f o k u = (
   all_good run ds f.1 o.1 (each_right (λ j. j.key.run < run) (map (λ t. t.job) d.tasks) (recorded_jobs ds) k) (once_right (map (λ t. t.job) d.tasks) (recorded_jobs ds) u),
 )
 
-pub opening_good : (run : ℕ) (ds : List Durable) → GoodOpening run ds → AllGood run ds
+pub opening_good : (run : ℕ) (ds : List RecordParts) → GoodOpening run ds → AllGood run ds
 opening_good run ds g = all_good run ds g.fits g.older g.keys_older g.keys_once
 
 -- the runs of their frameworks and offers
@@ -74,23 +74,23 @@ tasks_from run (t ∷ ts) h k = (
   tasks_from run ts h.1 (each_right (λ (id : Numbered). id.run < run) t.offers (flat_map (λ u. u.offers) ts) k),
 )
 
-records_from : (run : ℕ) (ds : List Durable) → Each (λ j. j.framework.run < run) (recorded_jobs ds) → Each (λ id. id.run < run) (recorded_offers ds) → Each (RecordFrom run) ds
+records_from : (run : ℕ) (ds : List RecordParts) → Each (λ j. j.framework.run < run) (recorded_jobs ds) → Each (λ id. id.run < run) (recorded_offers ds) → Each (RecordFrom run) ds
 records_from run [] h k = tt
 records_from run (d ∷ ds) h k = (
   tasks_from run d.tasks (each_left (λ (j : Job). j.framework.run < run) (map (λ t. t.job) d.tasks) (recorded_jobs ds) h) (each_left (λ (id : Numbered). id.run < run) (flat_map (λ t. t.offers) d.tasks) (recorded_offers ds) k),
   records_from run ds (each_right (λ (j : Job). j.framework.run < run) (map (λ t. t.job) d.tasks) (recorded_jobs ds) h) (each_right (λ (id : Numbered). id.run < run) (flat_map (λ t. t.offers) d.tasks) (recorded_offers ds) k),
 )
 
-pub opening_from : (run : ℕ) (ds : List Durable) → GoodOpening run ds → Each (RecordFrom run) ds
+pub opening_from : (run : ℕ) (ds : List RecordParts) → GoodOpening run ds → Each (RecordFrom run) ds
 opening_from run ds g = records_from run ds g.frameworks_older g.offers_older
 
 -- each task of the opening stood in a record
 
-old_tasks_from : (rs : List Durable) (name : List ℕ) (ts : List RecordedTask) → ((j : Job) → IsOneOf j (map (λ t. t.job) ts) → IsOneOf j (recorded_on name rs)) → Each (TaskTold (From rs name []) Any) ts
+old_tasks_from : (rs : List RecordParts) (name : List ℕ) (ts : List RecordedTask) → ((j : Job) → IsOneOf j (map (λ t. t.job) ts) → IsOneOf j (recorded_on name rs)) → Each (TaskTold (From rs name []) Any) ts
 old_tasks_from rs name [] f = tt
 old_tasks_from rs name (t ∷ ts) f = ((inr (f t.job (inl refl)), λ j lt. tt), old_tasks_from rs name ts (λ j h. f j (inr h)))
 
-channels_open : (rs : List Durable) (run : ℕ) (ds : List Durable) → ((name : List ℕ) (j : Job) → IsOneOf j (recorded_on name ds) → IsOneOf j (recorded_on name rs)) → Each (ChannelOk rs (new_run run) []) (map open_channel ds)
+channels_open : (rs : List RecordParts) (run : ℕ) (ds : List RecordParts) → ((name : List ℕ) (j : Job) → IsOneOf j (recorded_on name ds) → IsOneOf j (recorded_on name rs)) → Each (ChannelOk rs (new_run run) []) (map open_channel ds)
 channels_open rs run [] f = tt
 channels_open rs run (d ∷ ds) f = (
   ((tt, tt), record { booked = tt; waiting = tt; states = (old_tasks_from rs d.name d.tasks (λ j h. f d.name j (here j h)), tt); downs = tt; ups = tt; pending = tt }),
@@ -103,11 +103,11 @@ channels_open rs run (d ∷ ds) f = (
     behind_it : (name : List ℕ) (j : Job) → IsOneOf j (recorded_on name ds) → IsOneOf j (recorded_on name (d ∷ ds))
     behind_it name j h = cond_both (bytes_eq d.name name) (map (λ t. t.job) d.tasks ++ recorded_on name ds) (recorded_on name ds) (IsOneOf j) (λ e. in_behind (map (λ t. t.job) d.tasks) (recorded_on name ds) j h) (λ e. h)
 
-open_names : (ds : List Durable) → names_of (map open_channel ds) ≡ map (λ (d : Durable). d.name) ds
+open_names : (ds : List RecordParts) → names_of (map open_channel ds) ≡ map (λ (d : RecordParts). d.name) ds
 open_names [] = refl
 open_names (d ∷ ds) = ap (λ ns. d.name ∷ ns) (open_names ds)
 
-pub origin_opened : (run : ℕ) (ds : List Durable) → GoodOpening run ds → OriginOk ds (open_world run ds) []
+pub origin_opened : (run : ℕ) (ds : List RecordParts) → GoodOpening run ds → OriginOk ds (open_world run ds) []
 origin_opened run ds g = record {
   channels = channels_open ds run ds (λ name j h. h);
   once = subst NamesOnce (sym (open_names ds)) g.names_once;

@@ -5,13 +5,13 @@ use Rattle.std.proofs.lemmas.Bool.{cond_both, cases_Bool}
 use Rattle.names_core.specs.Ids.{Numbered, same}
 use Rattle.names_core.specs.declared.state.TaskState.{TaskState}
 use Rattle.names_core.specs.States.{is_terminal}
-use Rattle.mails.specs.declared.task.Job.{Job}
-use Rattle.mails.specs.declared.task.Booked.{Booked}
-use Rattle.mails.specs.declared.record.RecordedTask.{RecordedTask}
+use Rattle.messages.specs.declared.task.Job.{Job}
+use Rattle.messages.specs.declared.task.Booked.{Booked}
+use Rattle.messages.specs.declared.record.RecordedTask.{RecordedTask}
 use Rattle.stream_core.specs.Updates.{pushed, acknowledged_one, is_front}
 use Rattle.cluster_model.specs.Agents.{has_ended, is_task, stated, acknowledged}
 use Rattle.cluster_model.specs.Sides.{unended}
-use Rattle.cluster_safe.specs.Facts.{Less, Stake, Within, Aged, Fades, live, task_stake, Distinct, InOrder, EndedAt, Grown}
+use Rattle.cluster_safe.specs.Facts.{Less, TaskInFlight, Within, Aged, Fades, live, task_stake, Distinct, InOrder, EndedAt, Grown}
 
 -- Each
 
@@ -74,14 +74,14 @@ within_append (x ∷ xs) (y ∷ ys) us vs (inr h) k = inr (within_append (x ∷ 
 
 -- Fades
 
-pub aged_refl : (s : Stake) → Aged s s
+pub aged_refl : (s : TaskInFlight) → Aged s s
 aged_refl s = (refl, (λ e. e), (λ e. e), ([], sym (append-nil s.states)))
 
-pub fades_refl : (xs : List Stake) → Fades xs xs
+pub fades_refl : (xs : List TaskInFlight) → Fades xs xs
 fades_refl [] = tt
 fades_refl (x ∷ xs) = inl (aged_refl x, fades_refl xs)
 
-pub fades_append : (xs ys us vs : List Stake) → Fades xs ys → Fades us vs → Fades (xs ++ us) (ys ++ vs)
+pub fades_append : (xs ys us vs : List TaskInFlight) → Fades xs ys → Fades us vs → Fades (xs ++ us) (ys ++ vs)
 fades_append [] [] us vs h k = k
 fades_append [] (y ∷ ys) [] vs h k = tt
 fades_append [] (y ∷ ys) (u ∷ us) vs h k = inr (fades_append [] ys (u ∷ us) vs tt k)
@@ -89,31 +89,31 @@ fades_append (x ∷ xs) [] us vs h k = absurd h
 fades_append (x ∷ xs) (y ∷ ys) us vs (inl h) k = inl (h.0, fades_append xs ys us vs h.1 k)
 fades_append (x ∷ xs) (y ∷ ys) us vs (inr h) k = inr (fades_append (x ∷ xs) ys us vs h k)
 
-pub each_faded : (P : Stake → Type 0) → ((new old : Stake) → Aged new old → P old → P new) → (xs ys : List Stake) → Fades xs ys → Each P ys → Each P xs
+pub each_faded : (P : TaskInFlight → Type 0) → ((new old : TaskInFlight) → Aged new old → P old → P new) → (xs ys : List TaskInFlight) → Fades xs ys → Each P ys → Each P xs
 each_faded P f [] ys h k = tt
 each_faded P f (x ∷ xs) [] h k = absurd h
 each_faded P f (x ∷ xs) (y ∷ ys) (inl h) k = (f x y h.0 k.0, each_faded P f xs ys h.1 k.1)
 each_faded P f (x ∷ xs) (y ∷ ys) (inr h) k = each_faded P f (x ∷ xs) ys h k.1
 
 -- the updates that stood for a key stay a beginning
-pub grown_aged : (sent : Numbered → List TaskState) (x y : Stake) → Aged x y → Grown sent y → Grown sent x
+pub grown_aged : (sent : Numbered → List TaskState) (x y : TaskInFlight) → Aged x y → Grown sent y → Grown sent x
 grown_aged sent x y aged g = (
   g.0 ++ aged.3.0,
   aged.3.1 ∙ (ap (λ ss. ss ++ aged.3.0) g.1 ∙ (append_assoc (sent y.job.key) g.0 aged.3.0 ∙ ap (λ (j : Job). sent j.key ++ (g.0 ++ aged.3.0)) (sym aged.0))),
 )
 
 -- what holds of a job holds of the job after
-pub jobs_faded : (P : Job → Type 0) (xs ys : List Stake) → Fades xs ys → Each (λ s. P s.job) ys → Each (λ s. P s.job) xs
+pub jobs_faded : (P : Job → Type 0) (xs ys : List TaskInFlight) → Fades xs ys → Each (λ s. P s.job) ys → Each (λ s. P s.job) xs
 jobs_faded P xs ys h k = each_faded (λ s. P s.job) (λ new old a q. subst P (sym a.0) q) xs ys h k
 
-pub distinct_faded : (xs ys : List Stake) → Fades xs ys → Distinct ys → Distinct xs
+pub distinct_faded : (xs ys : List TaskInFlight) → Fades xs ys → Distinct ys → Distinct xs
 distinct_faded [] ys h k = tt
 distinct_faded (x ∷ xs) [] h k = absurd h
 distinct_faded (x ∷ xs) (y ∷ ys) (inl h) k =
     (subst (λ (j : Job). Each (λ t. t.job.key ≢ j.key) xs) (sym h.0.0) (jobs_faded (λ j. j.key ≢ y.job.key) xs ys h.1 k.0), distinct_faded xs ys h.1 k.1)
 distinct_faded (x ∷ xs) (y ∷ ys) (inr h) k = distinct_faded (x ∷ xs) ys h k.1
 
-pub order_faded : (xs ys : List Stake) → Fades xs ys → InOrder ys → InOrder xs
+pub order_faded : (xs ys : List TaskInFlight) → Fades xs ys → InOrder ys → InOrder xs
 order_faded [] ys h k = tt
 order_faded (x ∷ xs) [] h k = absurd h
 order_faded (x ∷ xs) (y ∷ ys) (inl h) k = (
@@ -124,10 +124,10 @@ order_faded (x ∷ xs) (y ∷ ys) (inl h) k = (
 )
 order_faded (x ∷ xs) (y ∷ ys) (inr h) k = order_faded (x ∷ xs) ys h k.1
 
-live_push : (P : List Job → Type 0) (s : Stake) (ss : List Stake) → (s.ended ≡ true → P (live ss)) → (s.ended ≡ false → P (s.job ∷ live ss)) → P (live (s ∷ ss))
+live_push : (P : List Job → Type 0) (s : TaskInFlight) (ss : List TaskInFlight) → (s.ended ≡ true → P (live ss)) → (s.ended ≡ false → P (s.job ∷ live ss)) → P (live (s ∷ ss))
 live_push P s ss f g = cond_both s.ended (live ss) (s.job ∷ live ss) P f g
 
-pub live_faded : (xs ys : List Stake) → Fades xs ys → Within (live xs) (live ys)
+pub live_faded : (xs ys : List TaskInFlight) → Fades xs ys → Within (live xs) (live ys)
 live_faded [] ys h = tt
 live_faded (x ∷ xs) [] h = absurd h
 live_faded (x ∷ xs) (y ∷ ys) (inr h) = live_push (λ js. Within (live (x ∷ xs)) js) y ys (λ e. live_faded (x ∷ xs) ys h) (λ e. behind (live (x ∷ xs)) (live_faded (x ∷ xs) ys h))
@@ -163,7 +163,7 @@ acknowledged_aged key k t =
     cond_both (is_task key t && is_front k t.updates) (record { job = t.job; offers = t.offers; updates = acknowledged_one t.updates }) t (λ u. Aged (task_stake u) (task_stake t))
     (λ e. aged_refl (task_stake t)) (λ e. aged_refl (task_stake t))
 
-fades_behind : (s : Stake) (xs ys : List Stake) → Fades xs ys → Fades xs (s ∷ ys)
+fades_behind : (s : TaskInFlight) (xs ys : List TaskInFlight) → Fades xs ys → Fades xs (s ∷ ys)
 fades_behind s [] ys h = tt
 fades_behind s (x ∷ xs) ys h = inr h
 
@@ -185,14 +185,14 @@ fades_filtered keep (t ∷ ts) =
 
 -- booked tasks
 
-pub live_of_ended : (key : Numbered) (ss : List Stake) → EndedAt key ss → Each (λ j. j.key ≢ key) (live ss)
+pub live_of_ended : (key : Numbered) (ss : List TaskInFlight) → EndedAt key ss → Each (λ j. j.key ≢ key) (live ss)
 live_of_ended key [] h = tt
 live_of_ended key (s ∷ ss) h = cond_both s.ended (live ss) (s.job ∷ live ss) (Each (λ j. j.key ≢ key)) (λ e. live_of_ended key ss h.1) (λ e. (λ d. (let k = h.0 d in false_true e k), live_of_ended key ss h.1))
   where
     false_true : s.ended ≡ false → s.ended ≡ true → ⊥
     false_true e d = cc
 
-pub each_live : (P : Job → Type 0) (ss : List Stake) → Each (λ s. P s.job) ss → Each P (live ss)
+pub each_live : (P : Job → Type 0) (ss : List TaskInFlight) → Each (λ s. P s.job) ss → Each P (live ss)
 each_live P [] h = tt
 each_live P (s ∷ ss) h = cond_both s.ended (live ss) (s.job ∷ live ss) (Each P) (λ e. each_live P ss h.1) (λ e. (h.0, each_live P ss h.1))
 

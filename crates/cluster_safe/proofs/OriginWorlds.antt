@@ -5,10 +5,10 @@ use Rattle.std.specs.List.{AllByRecursion as Each}
 use Rattle.std.proofs.lemmas.Bool.{cond_both, cond-true}
 use Rattle.std.specs.Cmp.Lexicographic.{bytes_decides}
 use Rattle.names_core.specs.Ids.{Numbered}
-use Rattle.mails.specs.declared.task.Job.{Job}
-use Rattle.mails.specs.declared.mail.AgentMail.{AgentMail}
-use Rattle.mails.specs.declared.mail.AgentMail.TheVariants.{Report, Applied, Update}
-use Rattle.mails.specs.declared.record.Durable.{Durable}
+use Rattle.messages.specs.declared.task.Job.{Job}
+use Rattle.messages.specs.declared.mail.AgentMail.{AgentMail}
+use Rattle.messages.specs.declared.mail.AgentMail.TheVariants.{Report, Applied, Update}
+use Rattle.messages.specs.declared.record.RecordParts.{RecordParts}
 use Rattle.cluster_model.specs.Ids.{first_of_run, is_among}
 use Rattle.cluster_model.specs.Sides.{Run, Side, new_run, offer_rows, Sending, sends_nothing, Launching, is_good, used_offers, without_used, accepted, received_update, forget_all, last_session, opens, opened, counts, shut, SideStep, MakeOffer, Withdraw, LaunchFrom, SendKill, SendAck, SendEnd, SendHello, SendAgain, Lose, side_step}
 use Rattle.cluster_model.specs.Channels.{Channel, InRun, agent_step, ChannelStep, ByMaster, Receive, ByAgent, received_mail, happens, World, Happening, At, TearDown, Restart, Halt, behind, in_front, at_agent, with_side, halted_run, after, after_all}
@@ -22,10 +22,10 @@ use Rattle.cluster_safe.proofs.Trails.{OffersOk, TrailOk, trail_later}
 use Rattle.cluster_safe.proofs.SideNames.{agent_side}
 use Rattle.cluster_safe.proofs.SideTrails.{KeysOk, keys_later, SideAfter, Before, side_after}
 
-abbrev pub ChannelOk : List Durable → Run → List Mark → Channel → Type 0
+abbrev pub ChannelOk : List RecordParts → Run → List Mark → Channel → Type 0
 ChannelOk rs run marks c = OffersOk run.next_offer marks c.side.name c.side.offers × Carried (From rs c.side.name marks) Any c
 
-pub from_more : (rs : List Durable) (name : List ℕ) (ms marks : List Mark) (j : Job) → From rs name marks j → From rs name (ms ++ marks) j
+pub from_more : (rs : List RecordParts) (name : List ℕ) (ms marks : List Mark) (j : Job) → From rs name marks j → From rs name (ms ++ marks) j
 from_more rs name [] marks j h = h
 from_more rs name (Made m ∷ ms) marks j h = from_more rs name ms marks j h
 from_more rs name (Used u ∷ ms) marks j h = wider (from_more rs name ms marks j h)
@@ -34,12 +34,12 @@ from_more rs name (Used u ∷ ms) marks j h = wider (from_more rs name ms marks 
     wider (inl k) = inl (cond_both (bytes_eq u.agent name) (u.jobs ++ jobs_on name (ms ++ marks)) (jobs_on name (ms ++ marks)) (IsOneOf j) (λ e. in_behind u.jobs (jobs_on name (ms ++ marks)) j k) (λ e. k))
     wider (inr k) = inr k
 
-told_more : (rs : List Durable) (name : List ℕ) (ms marks : List Mark) (c : Channel) → Carried (From rs name marks) Any c → Carried (From rs name (ms ++ marks)) Any c
+told_more : (rs : List RecordParts) (name : List ℕ) (ms marks : List Mark) (c : Channel) → Carried (From rs name marks) Any c → Carried (From rs name (ms ++ marks)) Any c
 told_more rs name ms marks c h = told_wider (From rs name marks) (From rs name (ms ++ marks)) Any Any (from_more rs name ms marks) (λ key k x. x) c h
 
 -- what a step brings
 
-launch_step : (rs : List Durable) (marks : List Mark) (run : Run) (c : Channel) (framework : Numbered) (ids : List Numbered) (jobs : List Job) → Carried (From rs c.side.name marks) Any c → SendingTold (From rs c.side.name (marks_at run c.side (LaunchFrom framework ids jobs) ++ marks)) Any (accepted run c.side framework ids jobs)
+launch_step : (rs : List RecordParts) (marks : List Mark) (run : Run) (c : Channel) (framework : Numbered) (ids : List Numbered) (jobs : List Job) → Carried (From rs c.side.name marks) Any c → SendingTold (From rs c.side.name (marks_at run c.side (LaunchFrom framework ids jobs) ++ marks)) Any (accepted run c.side framework ids jobs)
 launch_step rs marks run c framework ids jobs h = by (is_good c.side framework ids && not (is_among run.torn framework)) refl
   where
     first : Launching
@@ -55,7 +55,7 @@ launch_step rs marks run c framework ids jobs h = by (is_good c.side framework i
     by true e = rw e (let t = told_more rs c.side.name (Used u ∷ []) marks c h in launch_told (From rs c.side.name (Used u ∷ marks)) Any framework ids (offer_rows (used_offers c.side framework ids)) jobs first brought (t.booked, t.waiting, tt))
     by false e = rw e (h.booked, h.waiting, tt)
 
-step_told : (rs : List Durable) (marks : List Mark) (run : Run) (c : Channel) → Carried (From rs c.side.name marks) Any c → (step : SideStep) → StepTold (From rs c.side.name (marks_at run c.side step ++ marks)) Any run c.side step
+step_told : (rs : List RecordParts) (marks : List Mark) (run : Run) (c : Channel) → Carried (From rs c.side.name marks) Any c → (step : SideStep) → StepTold (From rs c.side.name (marks_at run c.side step ++ marks)) Any run c.side step
 step_told rs marks run c h (MakeOffer offer) = tt
 step_told rs marks run c h (Withdraw ids) = tt
 step_told rs marks run c h (LaunchFrom framework ids jobs) = launch_step rs marks run c framework ids jobs h
@@ -67,7 +67,7 @@ step_told rs marks run c h SendAgain = tt
 step_told rs marks run c h Lose = tt
 
 -- after a step in one channel
-record ChannelAfter (rs : List Durable) (marks : List Mark) (run : Run) (c : Channel) (x : InRun) (ms : List Mark) : Type 0 where
+record ChannelAfter (rs : List RecordParts) (marks : List Mark) (run : Run) (c : Channel) (x : InRun) (ms : List Mark) : Type 0 where
   pub own : ChannelOk rs x.run (ms ++ marks) x.channel
   pub name : x.channel.side.name ≡ c.side.name
   pub trail : TrailOk x.run.next_offer (ms ++ marks)
@@ -75,7 +75,7 @@ record ChannelAfter (rs : List Durable) (marks : List Mark) (run : Run) (c : Cha
   pub others : (d : Channel) → d.side.name ≢ c.side.name → ChannelOk rs run marks d → ChannelOk rs x.run (ms ++ marks) d
 
 -- a step that leaves the run and marks nothing
-still : (rs : List Durable) (marks : List Mark) (run : Run) (c d : Channel) → Before (recorded_jobs rs) marks run c.side → OffersOk run.next_offer marks c.side.name d.side.offers → d.side.name ≡ c.side.name → Carried (From rs c.side.name marks) Any d → ChannelAfter rs marks run c (record { run = run; channel = d }) []
+still : (rs : List RecordParts) (marks : List Mark) (run : Run) (c d : Channel) → Before (recorded_jobs rs) marks run c.side → OffersOk run.next_offer marks c.side.name d.side.offers → d.side.name ≡ c.side.name → Carried (From rs c.side.name marks) Any d → ChannelAfter rs marks run c (record { run = run; channel = d }) []
 still rs marks run c d b os name t = record {
   own = (subst (λ n. OffersOk run.next_offer marks n d.side.offers) (sym name) os, subst (λ n. Carried (From rs n marks) Any d) (sym name) t);
   name = name;
@@ -90,7 +90,7 @@ received_offers next marks run c (Some (Report session number tasks total)) h = 
 received_offers next marks run c (Some (Applied session count)) h = cond_both (counts c.side session count) (record c.side { booked = forget_all (take (count - c.known) c.waiting) c.booked; waiting = drop (count - c.known) c.waiting; known = count }) c.side (λ s. OffersOk next marks c.side.name s.offers × (s.name ≡ c.side.name)) (λ e. (h, refl)) (λ e. (h, refl))
 received_offers next marks run c (Some (Update session key k state ended)) h = cond_both (c.is_open && session == c.session) (record c.side { booked = map (received_update key k state ended) c.booked }) c.side (λ s. OffersOk next marks c.side.name s.offers × (s.name ≡ c.side.name)) (λ e. (h, refl)) (λ e. (h, refl))
 
-channel_after : (rs : List Durable) (marks : List Mark) (run : Run) (c : Channel) (step : ChannelStep) → Before (recorded_jobs rs) marks run c.side → Carried (From rs c.side.name marks) Any c → ChannelAfter rs marks run c (happens run c step) (marks_of run c step)
+channel_after : (rs : List RecordParts) (marks : List Mark) (run : Run) (c : Channel) (step : ChannelStep) → Before (recorded_jobs rs) marks run c.side → Carried (From rs c.side.name marks) Any c → ChannelAfter rs marks run c (happens run c step) (marks_of run c step)
 channel_after rs marks run c (ByMaster step) b t = record {
   own = (
     subst (λ n. OffersOk x.run.next_offer (ms ++ marks) n x.side.offers) (sym a.name) a.offers,
@@ -124,18 +124,18 @@ channel_after rs marks run c (ByAgent step) b t =
 abbrev pub names_of : List Channel → List (List ℕ)
 names_of cs = map (λ (c : Channel). c.side.name) cs
 
-record WorldAfter (rs : List Durable) (marks : List Mark) (run : Run) (agent : List ℕ) (cs : List Channel) (w : World) (ms : List Mark) : Type 0 where
+record WorldAfter (rs : List RecordParts) (marks : List Mark) (run : Run) (agent : List ℕ) (cs : List Channel) (w : World) (ms : List Mark) : Type 0 where
   pub channels : Each (ChannelOk rs w.run (ms ++ marks)) w.channels
   pub names : names_of w.channels ≡ names_of cs
   pub trail : TrailOk w.run.next_offer (ms ++ marks)
   pub keys : KeysOk w.run.next_key (jobs_of (ms ++ marks) ++ recorded_jobs rs)
   pub others : (d : Channel) → d.side.name ≢ agent → ChannelOk rs run marks d → ChannelOk rs w.run (ms ++ marks) d
 
-all_others : (rs : List Durable) (marks new : List Mark) (run next : Run) (name : List ℕ) (cs : List Channel) → ((d : Channel) → d.side.name ≢ name → ChannelOk rs run marks d → ChannelOk rs next new d) → Each (λ m. m ≢ name) (names_of cs) → Each (ChannelOk rs run marks) cs → Each (ChannelOk rs next new) cs
+all_others : (rs : List RecordParts) (marks new : List Mark) (run next : Run) (name : List ℕ) (cs : List Channel) → ((d : Channel) → d.side.name ≢ name → ChannelOk rs run marks d → ChannelOk rs next new d) → Each (λ m. m ≢ name) (names_of cs) → Each (ChannelOk rs run marks) cs → Each (ChannelOk rs next new) cs
 all_others rs marks new run next name [] f d h = tt
 all_others rs marks new run next name (c ∷ cs) f d h = (f c d.0 h.0, all_others rs marks new run next name cs f d.1 h.1)
 
-at_after : (rs : List Durable) (marks : List Mark) (agent : List ℕ) (step : ChannelStep) (run : Run) (cs : List Channel) → TrailOk run.next_offer marks → KeysOk run.next_key (jobs_of marks ++ recorded_jobs rs) → NamesOnce (names_of cs) → Each (ChannelOk rs run marks) cs → WorldAfter rs marks run agent cs (at_agent agent step run cs) (marks_in agent step run cs)
+at_after : (rs : List RecordParts) (marks : List Mark) (agent : List ℕ) (step : ChannelStep) (run : Run) (cs : List Channel) → TrailOk run.next_offer marks → KeysOk run.next_key (jobs_of marks ++ recorded_jobs rs) → NamesOnce (names_of cs) → Each (ChannelOk rs run marks) cs → WorldAfter rs marks run agent cs (at_agent agent step run cs) (marks_in agent step run cs)
 at_after rs marks agent step run [] trail keys once h = record { channels = tt; names = refl; trail = trail; keys = keys; others = λ d differ k. k }
 at_after rs marks agent step run (c ∷ cs) trail keys once h = by (bytes_eq c.side.name agent) refl (at_after rs marks agent step run cs trail keys once.1 h.1)
   where
@@ -164,7 +164,7 @@ pub later_at : (agent : List ℕ) (step : ChannelStep) (run : Run) (cs : List Ch
 later_at agent step run [] = later_refl run
 later_at agent step run (c ∷ cs) = let rest = later_at agent step run cs in cond_both (bytes_eq c.side.name agent) (in_front (happens run c step) cs) (behind c (at_agent agent step run cs)) (λ w. Later run w.run) (λ e. later_step run c step) (λ e. rest)
 
-pub record OriginOk (rs : List Durable) (w : World) (marks : List Mark) : Type 0 where
+pub record OriginOk (rs : List RecordParts) (w : World) (marks : List Mark) : Type 0 where
   pub channels : Each (ChannelOk rs w.run marks) w.channels
   pub once : NamesOnce (names_of w.channels)
   pub trail : TrailOk w.run.next_offer marks
@@ -172,7 +172,7 @@ pub record OriginOk (rs : List Durable) (w : World) (marks : List Mark) : Type 0
   pub key_run : w.run.next_key.run ≡ w.run.number
   pub offer_run : w.run.next_offer.run ≡ w.run.number
 
-shut_all : (rs : List Durable) (marks : List Mark) (run next : Run) (closed : Side → ℕ) (cs : List Channel) → Each (ChannelOk rs run marks) cs → Each (ChannelOk rs next marks) (map (with_side (λ s. shut s (closed s))) cs)
+shut_all : (rs : List RecordParts) (marks : List Mark) (run next : Run) (closed : Side → ℕ) (cs : List Channel) → Each (ChannelOk rs run marks) cs → Each (ChannelOk rs next marks) (map (with_side (λ s. shut s (closed s))) cs)
 shut_all rs marks run next closed [] h = tt
 shut_all rs marks run next closed (c ∷ cs) h = (((tt, tt), shut_told (From rs c.side.name marks) Any c (closed c.side) h.0.1), shut_all rs marks run next closed cs h.1)
 
@@ -180,7 +180,7 @@ shut_names : (closed : Side → ℕ) (cs : List Channel) → names_of (map (with
 shut_names closed [] = refl
 shut_names closed (c ∷ cs) = ap (λ ns. c.side.name ∷ ns) (shut_names closed cs)
 
-origin_after : (rs : List Durable) (w : World) (marks : List Mark) (h : Happening) → OriginOk rs w marks → OriginOk rs (after w h) (marks_by w h ++ marks)
+origin_after : (rs : List RecordParts) (w : World) (marks : List Mark) (h : Happening) → OriginOk rs w marks → OriginOk rs (after w h) (marks_by w h ++ marks)
 origin_after rs w marks (At agent step) ok =
     let a = at_after rs marks agent step w.run w.channels ok.trail ok.keys ok.once ok.channels in
     let later = later_at agent step w.run w.channels in
@@ -203,14 +203,14 @@ origin_after rs w marks Halt ok = record {
   offer_run = ok.offer_run;
 }
 
-pub origin_all : (rs : List Durable) (hs : List Happening) (w : World) (marks : List Mark) → OriginOk rs w marks → OriginOk rs (after_all hs w) (trail hs w marks)
+pub origin_all : (rs : List RecordParts) (hs : List Happening) (w : World) (marks : List Mark) → OriginOk rs w marks → OriginOk rs (after_all hs w) (trail hs w marks)
 origin_all rs [] w marks ok = ok
 origin_all rs (h ∷ hs) w marks ok = origin_all rs hs (after w h) (marks_by w h ++ marks) (origin_after rs w marks h ok)
 
-pub tasks_from : (rs : List Durable) (run : Run) (marks : List Mark) (c : Channel) → ChannelOk rs run marks c → Each (λ t. From rs c.side.name marks t.job) c.agent.durable.tasks
+pub tasks_from : (rs : List RecordParts) (run : Run) (marks : List Mark) (c : Channel) → ChannelOk rs run marks c → Each (λ t. From rs c.side.name marks t.job) c.agent.durable.tasks
 tasks_from rs run marks c h = each_map (TaskTold (From rs c.side.name marks) Any) (λ t. From rs c.side.name marks t.job) (λ t k. k.0) c.agent.durable.tasks h.1.states.0
 
-pub has_origin : (records : List Durable) (w : World) (marks : List Mark) → OriginOk records w marks → HasOrigin records w marks
+pub has_origin : (records : List RecordParts) (w : World) (marks : List Mark) → OriginOk records w marks → HasOrigin records w marks
 has_origin records w marks ok = record {
   tasks = each_map (ChannelOk records w.run marks) (λ c. Each (λ t. From records c.side.name marks t.job) c.agent.durable.tasks) (tasks_from records w.run marks) w.channels ok.channels;
   once = ok.keys.once;

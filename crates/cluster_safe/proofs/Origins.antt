@@ -6,10 +6,10 @@ use Rattle.std.proofs.lemmas.Bool.{cond_both, cond-true, cond-false}
 use Rattle.names_core.specs.Ids.{Numbered, same}
 use Rattle.quantity.specs.declared.rows.Row.{Row}
 use Rattle.quantity.specs.Rows.{covers}
-use Rattle.mails.specs.declared.task.Job.{Job}
-use Rattle.mails.specs.declared.mail.Command.{Command}
-use Rattle.mails.specs.declared.mail.Command.TheVariants.{Launch}
-use Rattle.mails.specs.declared.mail.MasterMail.TheVariants.{Issued}
+use Rattle.messages.specs.declared.task.Job.{Job}
+use Rattle.messages.specs.declared.mail.Command.{Command}
+use Rattle.messages.specs.declared.mail.Command.TheVariants.{Launch}
+use Rattle.messages.specs.declared.mail.MasterMail.TheVariants.{Issued}
 use Rattle.cluster_model.specs.Ids.{following}
 use Rattle.cluster_model.specs.Sides.{job_rows, Sending, issue, just_booked, may_launch, books, Launching, launch_one, launch_all}
 use Rattle.cluster_model.specs.Openings.{KeysOnce}
@@ -38,6 +38,11 @@ in_front_of (i ∷ js) is j (inr h) = inr (in_front_of js is j h)
 pub each_of : (P : Job → Type 0) (js : List Job) → ((j : Job) → IsOneOf j js → P j) → Each P js
 each_of P [] f = tt
 each_of P (j ∷ js) f = (f j (inl refl), each_of P js (λ i h. f i (inr h)))
+
+pub each_one : (P : Job → Type 0) (js : List Job) (j : Job) → Each P js → IsOneOf j js → P j
+each_one P [] j h k = absurd k
+each_one P (i ∷ js) j h (inl e) = subst P e h.0
+each_one P (i ∷ js) j h (inr k) = each_one P js j h.1 k
 
 launch_one_told : (P : Job → Type 0) (A : Numbered → ℕ → Type 0) (framework : Numbered) (ids : List Numbered) (budget : List Row) (x : Launching) (job : Job) → (may_launch x.sending.run framework budget x.used job ≡ true → P job) → SendingTold P A x.sending → SendingTold P A (launch_one framework ids budget x job).sending
 launch_one_told P A framework ids budget x job p h =

@@ -6,9 +6,9 @@ use Rattle.std.proofs.lemmas.Bool.{cond_both}
 use Rattle.std.specs.Cmp.Lexicographic.{bytes_decides}
 use Rattle.names_core.specs.Ids.{Numbered, same}
 use Rattle.names_core.specs.declared.state.TaskState.{TaskState}
-use Rattle.mails.specs.declared.task.Job.{Job}
-use Rattle.mails.specs.declared.record.RecordedTask.{RecordedTask}
-use Rattle.mails.specs.declared.record.Durable.{Durable}
+use Rattle.messages.specs.declared.task.Job.{Job}
+use Rattle.messages.specs.declared.record.RecordedTask.{RecordedTask}
+use Rattle.messages.specs.declared.record.RecordParts.{RecordParts}
 use Rattle.cluster_model.specs.Channels.{Channel, World, Happening, after}
 use Rattle.cluster_model.specs.Sides.{Run}
 use Rattle.cluster_model.specs.Openings.{recorded_jobs, KeysOnce, NamesOnce}
@@ -51,35 +51,35 @@ stands_on agent key (c ∷ cs) once h = by (bytes_eq c.side.name agent) refl (st
 
 -- a task's origin stays
 
-from_grows : (rs : List Durable) (hs : List Happening) (w : World) (marks : List Mark) (agent : List ℕ) (j : Job) → From rs agent marks j → From rs agent (trail hs w marks) j
+from_grows : (rs : List RecordParts) (hs : List Happening) (w : World) (marks : List Mark) (agent : List ℕ) (j : Job) → From rs agent marks j → From rs agent (trail hs w marks) j
 from_grows rs [] w marks agent j h = h
 from_grows rs (x ∷ hs) w marks agent j h = from_grows rs hs (after w x) (marks_by w x ++ marks) agent j (from_more rs agent (marks_by w x) marks j h)
 
 -- each is launched once, so the others have none of its key
-world_free : (rs : List Durable) (hs : List Happening) (w : World) (marks : List Mark) (agent : List ℕ) (j : Job) → OriginOk rs w marks → KeysOnce (jobs_of (trail hs w marks) ++ recorded_jobs rs) → From rs agent (trail hs w marks) j → Each (IsFree agent j.key) w.channels
+world_free : (rs : List RecordParts) (hs : List Happening) (w : World) (marks : List Mark) (agent : List ℕ) (j : Job) → OriginOk rs w marks → KeysOnce (jobs_of (trail hs w marks) ++ recorded_jobs rs) → From rs agent (trail hs w marks) j → Each (IsFree agent j.key) w.channels
 world_free rs hs w marks agent j origin once from = each_map (ChannelOk rs w.run marks) (IsFree agent j.key)
     (λ c ok differ. each_map (λ t. From rs c.side.name marks t.job) (λ t. t.job.key ≢ j.key) (λ t f e. differ (from_alike rs (trail hs w marks) c.side.name agent t.job j once (from_grows rs hs w marks c.side.name t.job f) from (sym e))) c.agent.durable.tasks (tasks_from rs w.run marks c ok)) w.channels origin.channels
 
-world_stands : (rs : List Durable) (hs : List Happening) (w : World) (marks : List Mark) (agent : List ℕ) (j : Job) → OriginOk rs w marks → KeysOnce (jobs_of (trail hs w marks) ++ recorded_jobs rs) → From rs agent (trail hs w marks) j → recorded_states j.key w ≡ states_on agent j.key w.channels
+world_stands : (rs : List RecordParts) (hs : List Happening) (w : World) (marks : List Mark) (agent : List ℕ) (j : Job) → OriginOk rs w marks → KeysOnce (jobs_of (trail hs w marks) ++ recorded_jobs rs) → From rs agent (trail hs w marks) j → recorded_states j.key w ≡ states_on agent j.key w.channels
 world_stands rs hs w marks agent j origin once from = stands_on agent j.key w.channels origin.once (world_free rs hs w marks agent j origin once from)
 
-over_on : (rs : List Durable) (hs : List Happening) (w : World) (marks : List Mark) (agent : List ℕ) (j : Job) (before : List TaskState) → OriginOk rs w marks → KeysOnce (jobs_of (trail hs w marks) ++ recorded_jobs rs) → From rs agent (trail hs w marks) j → updates_over j.key hs w before ≡ sent_over agent j.key hs w before
+over_on : (rs : List RecordParts) (hs : List Happening) (w : World) (marks : List Mark) (agent : List ℕ) (j : Job) (before : List TaskState) → OriginOk rs w marks → KeysOnce (jobs_of (trail hs w marks) ++ recorded_jobs rs) → From rs agent (trail hs w marks) j → updates_over j.key hs w before ≡ sent_over agent j.key hs w before
 over_on rs [] w marks agent j before origin once from = refl
 over_on rs (h ∷ hs) w marks agent j before origin once from =
     let later = origin_all rs (h ∷ []) w marks origin in
     ap (λ xs. updates_over j.key hs (after w h) (longer before xs)) (world_stands rs hs (after w h) (marks_by w h ++ marks) agent j later once from) ∙ over_on rs hs (after w h) (marks_by w h ++ marks) agent j (longer before (states_on agent j.key (after w h).channels)) later once from
 
-pub updates_there : (rs : List Durable) (hs : List Happening) (w : World) (agent : List ℕ) (j : Job) → OriginOk rs w [] → From rs agent (trail hs w []) j → updates_of j.key hs w ≡ updates_on agent j.key hs w
+pub updates_there : (rs : List RecordParts) (hs : List Happening) (w : World) (agent : List ℕ) (j : Job) → OriginOk rs w [] → From rs agent (trail hs w []) j → updates_of j.key hs w ≡ updates_on agent j.key hs w
 updates_there rs hs w agent j origin from =
     let once = (origin_all rs hs w [] origin).keys.once in
     ap (updates_over j.key hs w) (world_stands rs hs w [] agent j origin once from) ∙ over_on rs hs w [] agent j (states_on agent j.key w.channels) origin once from
 
 -- where an update stood in an agent's record, the task is of that agent
 
-abbrev Owned : List Durable → List ℕ → Numbered → List Mark → Type 0
+abbrev pub Owned : List RecordParts → List ℕ → Numbered → List Mark → Type 0
 Owned rs agent key marks = (j : Job) × From rs agent marks j × (j.key ≡ key)
 
-under_owned : (rs : List Durable) (agent : List ℕ) (key : Numbered) (marks : List Mark) (ts : List RecordedTask) → Each (λ t. From rs agent marks t.job) ts → (states_under key ts ≡ []) ⊎ Owned rs agent key marks
+under_owned : (rs : List RecordParts) (agent : List ℕ) (key : Numbered) (marks : List Mark) (ts : List RecordedTask) → Each (λ t. From rs agent marks t.job) ts → (states_under key ts ≡ []) ⊎ Owned rs agent key marks
 under_owned rs agent key marks [] h = inl refl
 under_owned rs agent key marks (t ∷ ts) h = by (same t.job.key key) refl (under_owned rs agent key marks ts h.1)
   where
@@ -87,7 +87,7 @@ under_owned rs agent key marks (t ∷ ts) h = by (same t.job.key key) refl (unde
     by true e rest = inr (t.job, h.0, same_is t.job.key key e)
     by false e rest = rest
 
-on_owned : (rs : List Durable) (run : Run) (marks : List Mark) (agent : List ℕ) (key : Numbered) (cs : List Channel) → Each (ChannelOk rs run marks) cs → (states_on agent key cs ≡ []) ⊎ Owned rs agent key marks
+on_owned : (rs : List RecordParts) (run : Run) (marks : List Mark) (agent : List ℕ) (key : Numbered) (cs : List Channel) → Each (ChannelOk rs run marks) cs → (states_on agent key cs ≡ []) ⊎ Owned rs agent key marks
 on_owned rs run marks agent key [] h = inl refl
 on_owned rs run marks agent key (c ∷ cs) h = by (bytes_eq c.side.name agent) refl (on_owned rs run marks agent key cs h.1)
   where
@@ -95,7 +95,7 @@ on_owned rs run marks agent key (c ∷ cs) h = by (bytes_eq c.side.name agent) r
     by true e rest = under_owned rs agent key marks c.agent.durable.tasks (subst (λ name. Each (λ t. From rs name marks t.job) c.agent.durable.tasks) ((bytes_decides c.side.name agent).0 e) (tasks_from rs run marks c h.0))
     by false e rest = rest
 
-owned_grows : (rs : List Durable) (hs : List Happening) (w : World) (marks : List Mark) (agent : List ℕ) (key : Numbered) → Owned rs agent key marks → Owned rs agent key (trail hs w marks)
+pub owned_grows : (rs : List RecordParts) (hs : List Happening) (w : World) (marks : List Mark) (agent : List ℕ) (key : Numbered) → Owned rs agent key marks → Owned rs agent key (trail hs w marks)
 owned_grows rs hs w marks agent key o = (o.0, from_grows rs hs w marks agent o.0 o.1, o.2)
 
 longer_owned : (P : Type 0) (xs ys : List TaskState) → (xs ≡ []) ⊎ P → (ys ≡ []) ⊎ P → (longer xs ys ≡ []) ⊎ P
@@ -108,7 +108,7 @@ or_wider : (P Q : Type 0) (xs : List TaskState) → (P → Q) → OrNone P xs �
 or_wider P Q xs f (inl e) = inl e
 or_wider P Q xs f (inr h) = inr (f h)
 
-sent_owned : (rs : List Durable) (hs : List Happening) (w : World) (marks : List Mark) (agent : List ℕ) (key : Numbered) (before : List TaskState) → OriginOk rs w marks → OrNone (Owned rs agent key (trail hs w marks)) before → OrNone (Owned rs agent key (trail hs w marks)) (sent_over agent key hs w before)
+sent_owned : (rs : List RecordParts) (hs : List Happening) (w : World) (marks : List Mark) (agent : List ℕ) (key : Numbered) (before : List TaskState) → OriginOk rs w marks → OrNone (Owned rs agent key (trail hs w marks)) before → OrNone (Owned rs agent key (trail hs w marks)) (sent_over agent key hs w before)
 sent_owned rs [] w marks agent key before origin h = h
 sent_owned rs (x ∷ hs) w marks agent key before origin h =
     let later = origin_all rs (x ∷ []) w marks origin in
@@ -117,7 +117,7 @@ sent_owned rs (x ∷ hs) w marks agent key before origin h =
     (or_wider (Owned rs agent key (marks_by w x ++ marks)) (Owned rs agent key (trail (x ∷ hs) w marks)) (states_on agent key (after w x).channels) (owned_grows rs hs (after w x) (marks_by w x ++ marks) agent key) (on_owned rs (after w x).run (marks_by w x ++ marks) agent key (after w x).channels later.channels)))
 
 -- an update in an agent's record is one of all updates of its key
-pub update_there : (rs : List Durable) (hs : List Happening) (w : World) (agent : List ℕ) (key : Numbered) (k : ℕ) (state : TaskState) → OriginOk rs w [] → slice_get (updates_on agent key hs w) k ≡ Some state → slice_get (updates_of key hs w) k ≡ Some state
+pub update_there : (rs : List RecordParts) (hs : List Happening) (w : World) (agent : List ℕ) (key : Numbered) (k : ℕ) (state : TaskState) → OriginOk rs w [] → slice_get (updates_on agent key hs w) k ≡ Some state → slice_get (updates_of key hs w) k ≡ Some state
 update_there rs hs w agent key k state origin at = by (sent_owned rs hs w [] agent key (states_on agent key w.channels) origin (or_wider (Owned rs agent key []) (Owned rs agent key (trail hs w [])) (states_on agent key w.channels) (owned_grows rs hs w [] agent key) (on_owned rs w.run [] agent key w.channels origin.channels)))
   where
     by : OrNone (Owned rs agent key (trail hs w [])) (updates_on agent key hs w) → slice_get (updates_of key hs w) k ≡ Some state

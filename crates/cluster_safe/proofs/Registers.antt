@@ -5,21 +5,21 @@ use Rattle.std.specs.List.{AllByRecursion as Each, find, list_any}
 use Rattle.std.proofs.lemmas.Bool.{cond_both}
 use Rattle.std.proofs.lemmas.Bool.Decides.{nat_tests}
 use Rattle.names_core.specs.Ids.{Numbered, same, before}
-use Rattle.mails.specs.declared.call.Call.{Call}
-use Rattle.mails.specs.declared.call.ReconciledTask.{ReconciledTask}
-use Rattle.mails.specs.declared.mail.AgentMail.{AgentMail}
-use Rattle.mails.specs.declared.refusal.MasterRefusal.{MasterRefusal}
+use Rattle.messages.specs.declared.call.Call.{Call}
+use Rattle.messages.specs.declared.call.ReconciledTask.{ReconciledTask}
+use Rattle.messages.specs.declared.mail.AgentMail.{AgentMail}
+use Rattle.messages.specs.declared.refusal.MasterRefusal.{MasterRefusal}
 use Rattle.cluster_model.specs.Ids.{each_once, last_number}
 use Rattle.cluster_model.specs.Sides.{Side, opens, SendKill, SendAck, SendEnd, SendHello, Lose}
 use Rattle.cluster_model.specs.Events.{Failure}
-use Rattle.cluster_model.specs.Masters.{Framework, Master, Move, AtSide, TearDownAll, Doing, nothing, refused, saying, moving, framework_of, is_torn, put_framework, with_framework, events_to_all, Placed, all_booked, held, is_of, withdraws, clear_on, without_filters_on, add_filter, side_of, has_numbers, may_have_numbers}
-use Rattle.cluster_model.specs.Calls.{frameworks_limit, to_list, subscribed, subscriber, removed, resubscribed, is_unassigned, sides_with_tasks, on_teardown, answers_held, Given, good_side, given_by, Accepting, accepts_all, passes_limits, rest_after, own_offers, accepted_as, accepted_from, on_accept, on_decline, on_revive, on_suppress, commanding, on_kill, is_last_received, on_acknowledge, on_reconcile, is_stream, on_its_stream, by_known, called}
-use Rattle.cluster_model.specs.Mails.{judged, rescinds, loses, session_opens, goes_with, mailed_as, mailed, is_due, beaten_on, beaten, ticked, agent_lost, hung_up_by, hung_up}
+use Rattle.cluster_model.specs.Masters.{Framework, Master, Move, AtSide, TearDownAll, MasterEffect, nothing, refused, saying, moving, framework_of, is_torn, put_framework, with_framework, events_to_all, Placed, all_booked, held, is_of, withdraws, clear_on, without_filters_on, add_filter, side_of, has_numbers, may_have_numbers}
+use Rattle.cluster_model.specs.Calls.{frameworks_limit, to_list, subscribed, subscriber, removed, resubscribed, is_unassigned, sides_with_tasks, on_teardown, answers_held, Given, good_side, given_by, Accepting, accepts_all, passes_limits, rest_after, own_offers, accepted_as, accepted_from, on_accept, on_decline, on_revive, on_suppress, commanding, on_kill, is_last_received, on_acknowledge, on_reconcile, is_stream, on_its_stream, by_known, call_effect}
+use Rattle.cluster_model.specs.Mails.{judged, rescinds, loses, session_opens, goes_with, mailed_as, mail_effect, is_due, beaten_on, after_heartbeat, ticked, agent_lost, hung_up_by, hung_up}
 use Rattle.cluster_safe.proofs.Orders.{each_append}
-use Rattle.mails.specs.declared.call.Call.TheVariants.{Subscribe, Teardown, Accept, Decline, Revive, Suppress, Acknowledge, Reconcile}
-use Rattle.mails.specs.declared.call.Call.TheVariants as calls
-use Rattle.mails.specs.declared.mail.AgentMail.TheVariants.{Report, Applied, Update}
-use Rattle.mails.specs.declared.refusal.MasterRefusal.TheVariants.{OtherRun, OldSession, Closed, NotOpen, NotSubscribed, WrongStream, NoSuchFramework, LimitExceeded}
+use Rattle.messages.specs.declared.call.Call.TheVariants.{Subscribe, Teardown, Accept, Decline, Revive, Suppress, Acknowledge, Reconcile}
+use Rattle.messages.specs.declared.call.Call.TheVariants as calls
+use Rattle.messages.specs.declared.mail.AgentMail.TheVariants.{Report, Applied, Update}
+use Rattle.messages.specs.declared.refusal.MasterRefusal.TheVariants.{OtherRun, OldSession, Closed, NotOpen, NotSubscribed, WrongStream, NoSuchFramework, LimitExceeded}
 
 abbrev pub IsUpTo : ℕ → Framework → Type 0
 IsUpTo n f = f.id.run ≤ n
@@ -53,18 +53,18 @@ cleared n agent fs h = mapped n (clear_on agent) (λ f k. k) fs h
 
 -- steps of the master
 
-abbrev pub StaysUpTo : ℕ → Doing → Type 0
+abbrev pub StaysUpTo : ℕ → MasterEffect → Type 0
 StaysUpTo n d = AllUpTo n d.registers.frameworks
 
-if_up_to : (n : ℕ) (b : Bool) (x y : Doing) → StaysUpTo n x → StaysUpTo n y → StaysUpTo n (if b then x else y)
+if_up_to : (n : ℕ) (b : Bool) (x y : MasterEffect) → StaysUpTo n x → StaysUpTo n y → StaysUpTo n (if b then x else y)
 if_up_to n true x y h k = h
 if_up_to n false x y h k = k
 
-stream_up_to : (n : ℕ) (m : Master) (stream o : Option Numbered) (d : Doing) → AllUpTo n m.registers.frameworks → StaysUpTo n d → StaysUpTo n (on_its_stream m stream o d)
+stream_up_to : (n : ℕ) (m : Master) (stream o : Option Numbered) (d : MasterEffect) → AllUpTo n m.registers.frameworks → StaysUpTo n d → StaysUpTo n (on_its_stream m stream o d)
 stream_up_to n m stream None d h k = h
 stream_up_to n m stream (Some s) d h k = if_up_to n (is_stream s stream) d (refused m WrongStream) k h
 
-known_up_to : (n : ℕ) (m : Master) (stream : Option Numbered) (o : Option Framework) (doing : Framework → Doing) → AllUpTo n m.registers.frameworks → ((f : Framework) → o ≡ Some f → StaysUpTo n (doing f)) → StaysUpTo n (by_known m stream o doing)
+known_up_to : (n : ℕ) (m : Master) (stream : Option Numbered) (o : Option Framework) (doing : Framework → MasterEffect) → AllUpTo n m.registers.frameworks → ((f : Framework) → o ≡ Some f → StaysUpTo n (doing f)) → StaysUpTo n (by_known m stream o doing)
 known_up_to n m stream None doing h k = h
 known_up_to n m stream (Some f) doing h k = if_up_to n (is_torn m f.id) (refused m NoSuchFramework) (on_its_stream m stream f.stream (doing f)) h (stream_up_to n m stream f.stream (doing f) h (k f refl))
 
@@ -72,7 +72,7 @@ resubscribed_up_to : (n : ℕ) (m : Master) (id : Numbered) (role : List ℕ) (o
 resubscribed_up_to n m id role None h le = if_up_to n (nat_le frameworks_limit (length m.registers.frameworks)) (refused m LimitExceeded) (subscribed m m.registers id role None) h (put n (subscriber m id role) m.registers.frameworks le h)
 resubscribed_up_to n m id role (Some f) h le = put n (subscriber m id role) m.registers.frameworks le h
 
-resubscribe_up_to : (m : Master) (id : Numbered) (role : List ℕ) → AllUpTo m.run.number m.registers.frameworks → StaysUpTo m.run.number (called m None (Subscribe (Some id) role))
+resubscribe_up_to : (m : Master) (id : Numbered) (role : List ℕ) → AllUpTo m.run.number m.registers.frameworks → StaysUpTo m.run.number (call_effect m None (Subscribe (Some id) role))
 resubscribe_up_to m id role h = cond_both (is_unassigned m id) (refused m NoSuchFramework) (if nat_le last_number m.registers.last_stream then refused m LimitExceeded else (if is_torn m id then removed m else resubscribed m id role (framework_of m id))) (StaysUpTo m.run.number) (λ e. h)
     (λ e. if_up_to m.run.number (nat_le last_number m.registers.last_stream) (refused m LimitExceeded) (if is_torn m id then removed m else resubscribed m id role (framework_of m id)) h
     (if_up_to m.run.number (is_torn m id) (removed m) (resubscribed m id role (framework_of m id)) h (resubscribed_up_to m.run.number m id role (framework_of m id) h (received e))))
@@ -103,7 +103,7 @@ reconcile_up_to n m (a ∷ more) f h = h
 framework_up_to : (m : Master) (framework : Numbered) (f : Framework) → AllUpTo m.run.number m.registers.frameworks → framework_of m framework ≡ Some f → IsUpTo m.run.number f
 framework_up_to m framework f h e = found_up_to m.run.number (λ g. same g.id framework) m.registers.frameworks f h e
 
-pub called_up_to : (m : Master) (stream : Option Numbered) (call : Call) → AllUpTo m.run.number m.registers.frameworks → StaysUpTo m.run.number (called m stream call)
+pub called_up_to : (m : Master) (stream : Option Numbered) (call : Call) → AllUpTo m.run.number m.registers.frameworks → StaysUpTo m.run.number (call_effect m stream call)
 called_up_to m stream (Subscribe None role) h = if_up_to m.run.number (nat_le frameworks_limit (length m.registers.frameworks) || nat_le last_number m.registers.last_framework || nat_le last_number m.registers.last_stream) (refused m LimitExceeded) (subscribed m (record m.registers { last_framework = suc m.registers.last_framework }) (record { run = m.run.number; n = suc m.registers.last_framework }) role None) h
     (put m.run.number (subscriber m (record { run = m.run.number; n = suc m.registers.last_framework }) role) m.registers.frameworks (le_refl m.run.number) h)
 called_up_to m stream (Subscribe (Some id) role) h = resubscribe_up_to m id role h
@@ -140,7 +140,7 @@ mailed_as_up_to n m s mail (Some refusal) h = refusal_up_to refusal
     refusal_up_to NoSuchFramework = h
     refusal_up_to LimitExceeded = h
 
-pub mailed_up_to : (n : ℕ) (m : Master) (s : Side) (mail : AgentMail) → AllUpTo n m.registers.frameworks → StaysUpTo n (mailed m s mail)
+pub mailed_up_to : (n : ℕ) (m : Master) (s : Side) (mail : AgentMail) → AllUpTo n m.registers.frameworks → StaysUpTo n (mail_effect m s mail)
 mailed_up_to n m s mail h = mailed_as_up_to n m s mail (judged m.run s mail) h
 
 beaten_up_to : (n now : ℕ) (f : Framework) (o : Option Numbered) → IsUpTo n f → IsUpTo n (beaten_on now f o)
@@ -148,7 +148,7 @@ beaten_up_to n now f None h = h
 beaten_up_to n now f (Some stream) h = cond_both (is_due now f) (record f { last_beat = now }) f (IsUpTo n) (λ e. h) (λ e. h)
 
 pub ticked_up_to : (n : ℕ) (m : Master) (now : ℕ) → AllUpTo n m.registers.frameworks → StaysUpTo n (ticked m now)
-ticked_up_to n m now h = mapped n (beaten now) (λ f k. beaten_up_to n now f f.stream k) m.registers.frameworks h
+ticked_up_to n m now h = mapped n (after_heartbeat now) (λ f k. beaten_up_to n now f f.stream k) m.registers.frameworks h
 
 pub lost_up_to : (n : ℕ) (m : Master) (s : Side) → AllUpTo n m.registers.frameworks → StaysUpTo n (agent_lost m s)
 lost_up_to n m s h = if_up_to n s.is_open (record { refusal = None; moves = AtSide s.name Lose ∷ AtSide s.name SendHello ∷ []; events = rescinds m s.offers ++ loses m s.name s.booked ++ events_to_all m.registers.frameworks (Failure s.name); opens = []; closes = []; registers = without_filters_on s.name m.registers }) (nothing m) (cleared n s.name m.registers.frameworks h) h

@@ -8,20 +8,20 @@ use Rattle.names_core.specs.Ids.{Numbered}
 use Rattle.names_core.specs.declared.state.TaskState.{TaskState}
 use Rattle.quantity.specs.declared.rows.Row.{Row}
 use Rattle.quantity.specs.Rows.{amount, covers}
-use Rattle.mails.specs.declared.task.Job.{Job}
-use Rattle.mails.specs.declared.mail.Command.{Command}
-use Rattle.mails.specs.declared.mail.Command.TheVariants.{Launch, Kill, Ack, EndFramework}
-use Rattle.mails.specs.declared.mail.MasterMail.{MasterMail}
-use Rattle.mails.specs.declared.mail.MasterMail.TheVariants.{Hello, Issued}
-use Rattle.mails.specs.declared.mail.AgentMail.TheVariants.{Applied}
-use Rattle.mails.specs.declared.record.RecordedTask.{RecordedTask}
-use Rattle.mails.specs.declared.refusal.AgentRefusal.{AgentRefusal}
-use Rattle.mails.specs.declared.refusal.AgentRefusal.TheVariants.{OldSession, NotNext, NoRoom, SessionsSpent}
+use Rattle.messages.specs.declared.task.Job.{Job}
+use Rattle.messages.specs.declared.mail.Command.{Command}
+use Rattle.messages.specs.declared.mail.Command.TheVariants.{Launch, Kill, Ack, EndFramework}
+use Rattle.messages.specs.declared.mail.MasterMail.{MasterMail}
+use Rattle.messages.specs.declared.mail.MasterMail.TheVariants.{Hello, Issued}
+use Rattle.messages.specs.declared.mail.AgentMail.TheVariants.{Applied}
+use Rattle.messages.specs.declared.record.RecordedTask.{RecordedTask}
+use Rattle.messages.specs.declared.refusal.AgentRefusal.{AgentRefusal}
+use Rattle.messages.specs.declared.refusal.AgentRefusal.TheVariants.{OldSession, NotNext, NoRoom, SessionsSpent}
 use Rattle.cluster_model.specs.Ids.{last_number}
 use Rattle.cluster_model.specs.Agents.{Agent, Draft, has_ended, live_tasks, task_rows, reopened, reports, opens_next, applies, has_room, receives_mail}
 use Rattle.cluster_model.specs.Sides.{job_rows}
 use Rattle.cluster_model.specs.Channels.{InRun}
-use Rattle.cluster_safe.specs.Facts.{Stake, Past, live, task_stake, launches, stakes, AtMost, StateOk, DownOk, Kept, HasRoom, RoomForAll}
+use Rattle.cluster_safe.specs.Facts.{TaskInFlight, Past, live, task_stake, launches, stakes, AtMost, StateOk, DownOk, Kept, HasRoom, RoomForAll}
 use Rattle.cluster_safe.proofs.Orders.{each_at}
 use Rattle.cluster_safe.proofs.Amounts.{amount-append, jobs-append}
 use Rattle.cluster_safe.proofs.Drafts.{both_true, not_false, coming_next}
@@ -41,7 +41,7 @@ tasks_rows name (t ∷ ts) = elim (cases_Bool (has_ended t)) [ inl e ↦ rw e (t
 launch_fits : (p : Past) (next : Numbered) (total : List Row) (a : Agent) (job : Job) (offers : List Numbered) → StateOk p next total a → a.in_session ≡ true → slice_get (p.ever a.session) a.applied ≡ Some (Launch job offers) → has_room a (Launch job offers) ≡ true
 launch_fits p next total a job offers s up at_place = covers_from a.total (job.resources ++ task_rows (live_tasks a.tasks)) fits
   where
-    rest : List Stake
+    rest : List TaskInFlight
     rest = launches (drop (suc a.applied) (p.ever a.session))
 
     parts : (name : List ℕ) → amount name (job_rows (live (stakes p a))) ≡ amount name (job_rows (live (map task_stake a.tasks))) + (amount name job.resources + amount name (job_rows (live rest)))

@@ -8,25 +8,25 @@ use Rattle.std.specs.Cmp.Lexicographic.{bytes_decides}
 use Rattle.names_core.specs.Ids.{Numbered, same}
 use Rattle.names_core.specs.declared.state.TaskState.{TaskState}
 use Rattle.stream_core.specs.Updates.{is_full}
-use Rattle.mails.specs.declared.record.RecordedTask.{RecordedTask}
-use Rattle.mails.specs.declared.record.Durable.{Durable}
-use Rattle.mails.specs.declared.mail.AgentMail.{AgentMail}
-use Rattle.mails.specs.declared.mail.AgentMail.TheVariants.{Report, Applied, Update}
-use Rattle.mails.specs.declared.mail.Command.{Command}
-use Rattle.mails.specs.declared.mail.Command.TheVariants.{Launch, Kill, Ack, EndFramework}
-use Rattle.mails.specs.declared.mail.MasterMail.{MasterMail}
-use Rattle.mails.specs.declared.mail.MasterMail.TheVariants.{Hello, Issued}
-use Rattle.mails.specs.declared.cause.Cause.{Cause}
-use Rattle.mails.specs.declared.cause.Cause.TheVariants.{Start, Mail, Executor, Again}
-use Rattle.mails.specs.Causes.{task_state}
-use Rattle.mails.specs.declared.refusal.AgentRefusal.{AgentRefusal}
-use Rattle.mails.specs.declared.refusal.AgentRefusal.TheVariants.{OldSession, NotNext, NoSuchTask, Ended, NoRoom, UpdatesFull, SessionsSpent}
+use Rattle.messages.specs.declared.record.RecordedTask.{RecordedTask}
+use Rattle.messages.specs.declared.record.RecordParts.{RecordParts}
+use Rattle.messages.specs.declared.mail.AgentMail.{AgentMail}
+use Rattle.messages.specs.declared.mail.AgentMail.TheVariants.{Report, Applied, Update}
+use Rattle.messages.specs.declared.mail.Command.{Command}
+use Rattle.messages.specs.declared.mail.Command.TheVariants.{Launch, Kill, Ack, EndFramework}
+use Rattle.messages.specs.declared.mail.MasterMail.{MasterMail}
+use Rattle.messages.specs.declared.mail.MasterMail.TheVariants.{Hello, Issued}
+use Rattle.messages.specs.declared.cause.Cause.{Cause}
+use Rattle.messages.specs.declared.cause.Cause.TheVariants.{Start, Mail, Executor, Again}
+use Rattle.messages.specs.Causes.{task_state}
+use Rattle.messages.specs.declared.refusal.AgentRefusal.{AgentRefusal}
+use Rattle.messages.specs.declared.refusal.AgentRefusal.TheVariants.{OldSession, NotNext, NoSuchTask, Ended, NoRoom, UpdatesFull, SessionsSpent}
 use Rattle.cluster_model.specs.Ids.{last_number}
 use Rattle.cluster_model.specs.Agents.{Agent, Draft, has_ended, is_task, state_at, front_of, fronts, front_at, owning, reopened, reports, opens_next, starts, stated, with_tasks, after_command, is_front_at, fronts_after, applies, has_room, receives_mail, needs_place, executes, next_of}
 use Rattle.cluster_model.specs.Sides.{Run, Side, shut, last_session}
 use Rattle.cluster_model.specs.Channels.{Channel, InRun, AgentStep, Draw, DrawMail, Adopt, StopWithout, StopWith, drawn, drawn_mail, adopted, stopped_with, is_own, agent_step, ChannelStep, ByMaster, Receive, ByAgent, received_mail, happens, World, Happening, At, TearDown, Restart, Halt, behind, in_front, at_agent, with_side, after, after_all, open_channel, open_world}
 use Rattle.cluster_model.specs.Openings.{NamesOnce}
-use Rattle.cluster_safe.specs.Facts.{Less, UpTo, Stake, Past, task_stake, coming, stakes, Distinct, Grown, StateOk, DownOk, IsReportOf, UpOk, drafted, mails_of, states_of, Facts, Kept}
+use Rattle.cluster_safe.specs.Facts.{Less, UpTo, TaskInFlight, Past, task_stake, coming, stakes, Distinct, Grown, StateOk, DownOk, IsReportOf, UpOk, drafted, mails_of, states_of, Facts, Kept}
 use Rattle.cluster_safe.specs.Updates.{longer, states_under, states_on, sent_over}
 use Rattle.cluster_safe.proofs.Ids.{same_refl, same_is, less_differs}
 use Rattle.cluster_safe.proofs.Orders.{each_append, each_map, each_both, each_left}
@@ -36,6 +36,7 @@ use Rattle.cluster_safe.proofs.Worlds.{Sents, KeptIn, WorldOk, world_after}
 use Rattle.cluster_safe.specs.Origin.{Mark, marks_by}
 use Rattle.cluster_safe.proofs.OriginWorlds.{names_of, OriginOk, origin_all}
 use Rattle.cluster_safe.proofs.Counts.{longer_right, count, all_fill}
+use Rattle.cluster_safe.proofs.Commands.{get_more}
 
 -- the states under a key
 
@@ -56,26 +57,26 @@ under_first : (t : RecordedTask) (ts : List RecordedTask) → Each (λ u. u.job.
 under_first t ts h = cond_both (same t.job.key t.job.key) (longer t.updates.states (states_under t.job.key ts)) (states_under t.job.key ts) (λ xs. xs ≡ t.updates.states)
     (λ e. ap (longer t.updates.states) (under_none t.job.key ts h) ∙ longer_none t.updates.states) (λ e. absurd (let s = same_refl t.job.key in cc))
 
-unmapped : (P : Stake → Type 0) (ts : List RecordedTask) → Each P (map task_stake ts) → Each (λ t. P (task_stake t)) ts
+pub unmapped : (P : TaskInFlight → Type 0) (ts : List RecordedTask) → Each P (map task_stake ts) → Each (λ t. P (task_stake t)) ts
 unmapped P [] h = tt
 unmapped P (t ∷ ts) h = (h.0, unmapped P ts h.1)
 
 -- for the key of a stake nothing stands there, or its own states
-abbrev pub Stands : List RecordedTask → Stake → Type 0
+abbrev pub Stands : List RecordedTask → TaskInFlight → Type 0
 Stands ts s = (states_under s.job.key ts ≡ []) ⊎ (states_under s.job.key ts ≡ s.states)
 
-none_stands : (ss : List Stake) → Each (Stands []) ss
+none_stands : (ss : List TaskInFlight) → Each (Stands []) ss
 none_stands [] = tt
 none_stands (s ∷ ss) = (inl refl, none_stands ss)
 
-stakes_stand : (ts : List RecordedTask) (rest : List Stake) → Distinct (map task_stake ts ++ rest) → Each (Stands ts) (map task_stake ts ++ rest)
+stakes_stand : (ts : List RecordedTask) (rest : List TaskInFlight) → Distinct (map task_stake ts ++ rest) → Each (Stands ts) (map task_stake ts ++ rest)
 stakes_stand [] rest d = none_stands rest
 stakes_stand (t ∷ ts) rest d = (
   inr (under_first t ts (unmapped (λ s. s.job.key ≢ t.job.key) ts (each_left (λ s. s.job.key ≢ t.job.key) (map task_stake ts) rest d.0))),
   each_both (λ s. s.job.key ≢ t.job.key) (Stands ts) (Stands (t ∷ ts)) (λ s differ h. further s differ h) (map task_stake ts ++ rest) d.0 (stakes_stand ts rest d.1),
 )
   where
-    further : (s : Stake) → s.job.key ≢ t.job.key → Stands ts s → Stands (t ∷ ts) s
+    further : (s : TaskInFlight) → s.job.key ≢ t.job.key → Stands ts s → Stands (t ∷ ts) s
     further s differ (inl e) = inl (under_skip s.job.key t ts differ ∙ e)
     further s differ (inr e) = inr (under_skip s.job.key t ts differ ∙ e)
 
@@ -94,7 +95,7 @@ begins_or xs ys h = cond_both (nat_lt (length xs) (length ys)) ys xs (λ zs. Beg
 abbrev pub Renews : (Numbered → List TaskState) → (Numbered → List TaskState) → List RecordedTask → Type 0
 Renews old new ts = (key : Numbered) → new key ≡ longer (old key) (states_under key ts)
 
-grown_next : (old new : Numbered → List TaskState) (ts : List RecordedTask) → Renews old new ts → (s : Stake) → Stands ts s → Grown old s → Grown new s
+grown_next : (old new : Numbered → List TaskState) (ts : List RecordedTask) → Renews old new ts → (s : TaskInFlight) → Stands ts s → Grown old s → Grown new s
 grown_next old new ts r s (inl e) g = subst (λ xs. Begins xs s.states) (sym (r s.job.key ∙ (ap (longer (old s.job.key)) e ∙ longer_none (old s.job.key)))) g
 grown_next old new ts r s (inr e) g = subst (λ xs. Begins xs s.states) (sym (r s.job.key ∙ ap (longer (old s.job.key)) e)) (begins_or (old s.job.key) s.states g)
 
@@ -102,7 +103,7 @@ grown_next old new ts r s (inr e) g = subst (λ xs. Begins xs s.states) (sym (r 
 abbrev pub IsSettled : (Numbered → List TaskState) → List RecordedTask → Type 0
 IsSettled old ts = (key : Numbered) → length (states_under key ts) ≤ length (old key)
 
-grown_settled : (old new : Numbered → List TaskState) (ts : List RecordedTask) → Renews old new ts → IsSettled old ts → (s : Stake) → Grown old s → Grown new s
+grown_settled : (old new : Numbered → List TaskState) (ts : List RecordedTask) → Renews old new ts → IsSettled old ts → (s : TaskInFlight) → Grown old s → Grown new s
 grown_settled old new ts r le s g = subst (λ xs. Begins xs s.states) (sym (r s.job.key ∙ longer_short (old s.job.key) (states_under s.job.key ts) (le s.job.key))) g
 
 abbrev pub renewed : Past → (Numbered → List TaskState) → Past
@@ -219,11 +220,6 @@ mail_exact : (new : Numbered → List TaskState) (ts : List RecordedTask) → Ea
 mail_exact new ts e (Report session run tasks total) h = tt
 mail_exact new ts e (Applied session number) h = tt
 mail_exact new ts e (Update session key k state ended) h = in_exact new ts e key k state h
-
-get_more : (xs more : List TaskState) (k : ℕ) (s : TaskState) → slice_get xs k ≡ Some s → slice_get (xs ++ more) k ≡ Some s
-get_more [] more k s h = absurd cc
-get_more (x ∷ xs) more zero s h = h
-get_more (x ∷ xs) more (suc k) s h = get_more xs more k s h
 
 pub get_begins : (xs ys : List TaskState) (k : ℕ) (s : TaskState) → Begins xs ys → slice_get xs k ≡ Some s → slice_get ys k ≡ Some s
 get_begins xs ys k s b h = subst (λ zs. slice_get zs k ≡ Some s) (sym b.1) (get_more xs b.0 k s h)
@@ -544,7 +540,7 @@ sent_after v w h once ok = sent_renewed v (next v (after w h)) (after w h) (worl
 abbrev pub all_over : Sents → List Happening → World → Sents
 all_over v hs w = λ name key. sent_over name key hs w (v name key)
 
-pub worlds_sent : (rs : List Durable) (hs : List Happening) (w : World) (marks : List Mark) (v : Sents) → OriginOk rs w marks → SentOk v w → SentOk (all_over v hs w) (after_all hs w)
+pub worlds_sent : (rs : List RecordParts) (hs : List Happening) (w : World) (marks : List Mark) (v : Sents) → OriginOk rs w marks → SentOk v w → SentOk (all_over v hs w) (after_all hs w)
 worlds_sent rs [] w marks v origin ok = ok
 worlds_sent rs (h ∷ hs) w marks v origin ok =
     let later = origin_all rs (h ∷ []) w marks origin in
@@ -566,7 +562,7 @@ tasks_begin v run c k = unmapped (Grown (v c.side.name)) c.agent.durable.tasks (
 next_begin : (v : Sents) (w : World) → WorldOk v w → (name : List ℕ) (key : Numbered) → Begins (v name key) (next v w name key)
 next_begin v w ok name key = begins_on v name key w.channels (each_map (KeptIn v w.run) (λ c. Each (λ t. Begins (v c.side.name t.job.key) t.updates.states) c.agent.durable.tasks) (tasks_begin v w.run) w.channels ok.kept)
 
-pub all_begin : (rs : List Durable) (hs : List Happening) (w : World) (marks : List Mark) (v : Sents) → OriginOk rs w marks → SentOk v w → (name : List ℕ) (key : Numbered) → Begins (v name key) (all_over v hs w name key)
+pub all_begin : (rs : List RecordParts) (hs : List Happening) (w : World) (marks : List Mark) (v : Sents) → OriginOk rs w marks → SentOk v w → (name : List ℕ) (key : Numbered) → Begins (v name key) (all_over v hs w name key)
 all_begin rs [] w marks v origin ok name key = begins_refl (v name key)
 all_begin rs (h ∷ hs) w marks v origin ok name key =
     let later = origin_all rs (h ∷ []) w marks origin in
@@ -594,15 +590,15 @@ longer_all : (xs : List TaskState) → longer [] xs ≡ xs
 longer_all [] = refl
 longer_all (x ∷ xs) = cond_both (nat_lt 0 (length (x ∷ xs))) (x ∷ xs) [] (λ ys. ys ≡ x ∷ xs) (λ e. refl) (λ e. absurd (let le : length (x ∷ xs) ≤ 0 = grind (arith, nat_tests) in omega arith))
 
-opened_mails : (v : Sents) (ds : List Durable) → Each (MailsIn v) (map open_channel ds)
+opened_mails : (v : Sents) (ds : List RecordParts) → Each (MailsIn v) (map open_channel ds)
 opened_mails v [] = tt
 opened_mails v (d ∷ ds) = (record { ups = tt; pending = tt }, opened_mails v ds)
 
-opened_renewable : (v : Sents) (ds : List Durable) → Each (RenewableIn v) (map open_channel ds)
+opened_renewable : (v : Sents) (ds : List RecordParts) → Each (RenewableIn v) (map open_channel ds)
 opened_renewable v [] = tt
 opened_renewable v (d ∷ ds) = (inl refl, opened_renewable v ds)
 
-pub opened_sent : (rs : List Durable) (run : ℕ) → OriginOk rs (open_world run rs) [] → WorldOk (λ name key. []) (open_world run rs) → SentOk (λ name key. states_on name key (open_world run rs).channels) (open_world run rs)
+pub opened_sent : (rs : List RecordParts) (run : ℕ) → OriginOk rs (open_world run rs) [] → WorldOk (λ name key. []) (open_world run rs) → SentOk (λ name key. states_on name key (open_world run rs).channels) (open_world run rs)
 opened_sent rs run origin ok = sent_renewed (λ name key. []) (λ name key. states_on name key (open_world run rs).channels) (open_world run rs) ok
     (each_map (IsOwn (open_world run rs).channels) (RenewsIn (λ name key. []) (λ name key. states_on name key (open_world run rs).channels)) (λ c own key. own key ∙ sym (longer_all (states_under key c.agent.durable.tasks))) (open_world run rs).channels (own_states (open_world run rs).channels origin.once))
     (opened_renewable (λ name key. []) rs) (λ r. opened_mails (λ name key. states_on name key (open_world run rs).channels) rs)

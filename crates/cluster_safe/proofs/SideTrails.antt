@@ -5,10 +5,10 @@ use Rattle.std.proofs.lemmas.Bool.{cond_both, or_left, or_right}
 use Rattle.names_core.specs.Ids.{Numbered, same}
 use Rattle.quantity.specs.declared.rows.Row.{Row}
 use Rattle.quantity.specs.Rows.{amount, covers}
-use Rattle.mails.specs.declared.task.Job.{Job}
-use Rattle.mails.specs.declared.task.Offer.{Offer}
-use Rattle.mails.specs.declared.mail.Command.{Command}
-use Rattle.mails.specs.declared.mail.Command.TheVariants.{Kill, Ack, EndFramework}
+use Rattle.messages.specs.declared.task.Job.{Job}
+use Rattle.messages.specs.declared.task.Offer.{Offer}
+use Rattle.messages.specs.declared.mail.Command.{Command}
+use Rattle.messages.specs.declared.mail.Command.TheVariants.{Kill, Ack, EndFramework}
 use Rattle.cluster_model.specs.Ids.{following, is_among, is_repeated, is_empty}
 use Rattle.cluster_model.specs.Sides.{Run, Side, job_rows, offer_rows, taken, Sending, sends_nothing, issue, Launching, launch_all, is_named, has_offer, is_good, used_offers, without_used, may_offer, withdrawn, shut, SideStep, MakeOffer, Withdraw, LaunchFrom, SendKill, SendAck, SendEnd, SendHello, SendAgain, Lose, side_step}
 use Rattle.cluster_model.specs.Openings.{KeysOnce}

@@ -6,30 +6,30 @@ use Rattle.std.proofs.lemmas.Bool.{cond_both}
 use Rattle.std.specs.Cmp.Lexicographic.{bytes_decides}
 use Rattle.names_core.specs.Ids.{Numbered, same}
 use Rattle.quantity.specs.Rows.{covers}
-use Rattle.mails.specs.declared.task.Job.{Job}
-use Rattle.mails.specs.declared.task.Offer.{Offer}
-use Rattle.mails.specs.declared.mail.AgentMail.{AgentMail}
-use Rattle.mails.specs.declared.refusal.MasterRefusal.{MasterRefusal}
-use Rattle.mails.specs.declared.call.Call.{Call}
-use Rattle.mails.specs.declared.call.ReconciledTask.{ReconciledTask}
-use Rattle.mails.specs.declared.call.TaskInfo.{TaskInfo}
+use Rattle.messages.specs.declared.task.Job.{Job}
+use Rattle.messages.specs.declared.task.Offer.{Offer}
+use Rattle.messages.specs.declared.mail.AgentMail.{AgentMail}
+use Rattle.messages.specs.declared.refusal.MasterRefusal.{MasterRefusal}
+use Rattle.messages.specs.declared.call.Call.{Call}
+use Rattle.messages.specs.declared.call.ReconciledTask.{ReconciledTask}
+use Rattle.messages.specs.declared.call.TaskInfo.{TaskInfo}
 use Rattle.names_core.specs.declared.state.TaskState.TheVariants.{Error}
-use Rattle.role_weights.specs.Weights.{RoleWeight}
+use Rattle.names_core.specs.Weights.{RoleWeight}
 use Rattle.cluster_model.specs.Ids.{is_empty, last_number}
 use Rattle.cluster_model.specs.Sides.{Side, is_named, opens, MakeOffer, SendKill, SendAck, SendEnd, SendHello, SendAgain, Lose}
 use Rattle.cluster_model.specs.Events.{MadeOffer, Failure}
-use Rattle.cluster_model.specs.Masters.{Framework, Master, Move, AtSide, TearDownAll, Doing, nothing, refused, saying, moving, framework_of, is_torn, with_framework, events_to_all, Placed, all_booked, held_among, held, is_of, withdraws_on, withdraws, without_filters_on, side_of, has_numbers, may_have_numbers}
-use Rattle.cluster_model.specs.Calls.{frameworks_limit, to_list, subscribed, removed, resubscribed, is_unassigned, sides_with_tasks, on_teardown, answers, answers_held, Given, good_side, given_by, Accepting, is_covered, job_of, launching, answering, accepts_as, accepts_one, passes_limits, accepted_from, on_accept, on_decline, on_revive, on_suppress, commanding, on_kill, is_last_received, on_acknowledge, on_reconcile, is_stream, on_its_stream, by_known, called}
-use Rattle.cluster_model.specs.Mails.{judged, rescinds, loses, is_to_end, session_opens, goes_with, mailed_as, mailed, ticks, ticked, agent_lost, hung_up_by, hung_up}
+use Rattle.cluster_model.specs.Masters.{Framework, Master, Move, AtSide, TearDownAll, MasterEffect, nothing, refused, saying, moving, framework_of, is_torn, with_framework, events_to_all, Placed, all_booked, held_among, held, is_of, withdraws_on, withdraws, without_filters_on, side_of, has_numbers, may_have_numbers}
+use Rattle.cluster_model.specs.Calls.{frameworks_limit, to_list, subscribed, removed, resubscribed, is_unassigned, sides_with_tasks, on_teardown, answers, answers_held, Given, good_side, given_by, Accepting, is_covered, job_of, launching, answering, accepts_as, accepts_one, passes_limits, accepted_from, on_accept, on_decline, on_revive, on_suppress, commanding, on_kill, is_last_received, on_acknowledge, on_reconcile, is_stream, on_its_stream, by_known, call_effect}
+use Rattle.cluster_model.specs.Mails.{judged, rescinds, loses, is_to_end, session_opens, goes_with, mailed_as, mail_effect, ticks, ticked, agent_lost, hung_up_by, hung_up}
 use Rattle.cluster_model.specs.Rounds.{round, allocated}
 use Rattle.cluster_safe.specs.Listed.{IsListed, MoveFrom, StepWithout, MoveWithout}
 use Rattle.cluster_safe.proofs.Ids.{same_is}
 use Rattle.cluster_safe.proofs.Orders.{each_append}
 use Rattle.cluster_safe.proofs.Drafts.{both_true}
-use Rattle.mails.specs.declared.mail.AgentMail.TheVariants.{Report, Applied, Update}
-use Rattle.mails.specs.declared.call.Call.TheVariants.{Subscribe, Teardown, Accept, Decline, Revive, Suppress, Acknowledge, Reconcile}
-use Rattle.mails.specs.declared.call.Call.TheVariants as calls
-use Rattle.mails.specs.declared.refusal.MasterRefusal.TheVariants.{OtherRun, OldSession, Closed, NotOpen, NotSubscribed, WrongStream, NoSuchFramework, LimitExceeded}
+use Rattle.messages.specs.declared.mail.AgentMail.TheVariants.{Report, Applied, Update}
+use Rattle.messages.specs.declared.call.Call.TheVariants.{Subscribe, Teardown, Accept, Decline, Revive, Suppress, Acknowledge, Reconcile}
+use Rattle.messages.specs.declared.call.Call.TheVariants as calls
+use Rattle.messages.specs.declared.refusal.MasterRefusal.TheVariants.{OtherRun, OldSession, Closed, NotOpen, NotSubscribed, WrongStream, NoSuchFramework, LimitExceeded}
 
 mapped_from : {X : Type 0} (q : Call) (f : X → Move) → ((x : X) → MoveFrom q (f x)) → (xs : List X) → Each (MoveFrom q) (map f xs)
 mapped_from q f g [] = tt
@@ -41,11 +41,11 @@ withdraws_from q test m = mapped_from q (withdraws_on test) (λ s. tt) m.sides
 commanding_from : (q : Call) (m : Master) (s : Option Side) (order : Move) → MoveFrom q order → Each (MoveFrom q) (commanding m s order).moves
 commanding_from q m s order ok = cond_both (may_have_numbers 1 s) (moving m (order ∷ [])) (refused m LimitExceeded) (λ d. Each (MoveFrom q) d.moves) (λ e. (ok, tt)) (λ e. tt)
 
-stream_from : (q : Call) (m : Master) (stream o : Option Numbered) (d : Doing) → Each (MoveFrom q) d.moves → Each (MoveFrom q) (on_its_stream m stream o d).moves
+stream_from : (q : Call) (m : Master) (stream o : Option Numbered) (d : MasterEffect) → Each (MoveFrom q) d.moves → Each (MoveFrom q) (on_its_stream m stream o d).moves
 stream_from q m stream None d h = tt
 stream_from q m stream (Some s) d h = cond_both (is_stream s stream) d (refused m WrongStream) (λ d. Each (MoveFrom q) d.moves) (λ e. h) (λ e. tt)
 
-known_from : (q : Call) (m : Master) (stream : Option Numbered) (o : Option Framework) (doing : Framework → Doing) → ((f : Framework) → o ≡ Some f → Each (MoveFrom q) (doing f).moves) → Each (MoveFrom q) (by_known m stream o doing).moves
+known_from : (q : Call) (m : Master) (stream : Option Numbered) (o : Option Framework) (doing : Framework → MasterEffect) → ((f : Framework) → o ≡ Some f → Each (MoveFrom q) (doing f).moves) → Each (MoveFrom q) (by_known m stream o doing).moves
 known_from q m stream None doing h = tt
 known_from q m stream (Some f) doing h = cond_both (is_torn m f.id) (refused m NoSuchFramework) (on_its_stream m stream f.stream (doing f)) (λ d. Each (MoveFrom q) d.moves) (λ e. tt) (λ e. stream_from q m stream f.stream (doing f) (h f refl))
 
@@ -53,7 +53,7 @@ resubscribed_from : (q : Call) (m : Master) (id : Numbered) (role : List ℕ) (o
 resubscribed_from q m id role None = cond_both (nat_le frameworks_limit (length m.registers.frameworks)) (refused m LimitExceeded) (subscribed m m.registers id role None) (λ d. Each (MoveFrom q) d.moves) (λ e. tt) (λ e. withdraws_from q (is_of id) m)
 resubscribed_from q m id role (Some f) = withdraws_from q (is_of id) m
 
-if_from : (q : Call) (b : Bool) (x y : Doing) → Each (MoveFrom q) x.moves → Each (MoveFrom q) y.moves → Each (MoveFrom q) (if b then x else y).moves
+if_from : (q : Call) (b : Bool) (x y : MasterEffect) → Each (MoveFrom q) x.moves → Each (MoveFrom q) y.moves → Each (MoveFrom q) (if b then x else y).moves
 if_from q true x y h k = h
 if_from q false x y h k = k
 
@@ -61,7 +61,7 @@ teardown_from : (q : Call) (m : Master) (f : Framework) → Each (MoveFrom q) (o
 teardown_from q m f = cond_both (list_any (λ s. not (has_numbers 1 s)) (sides_with_tasks m f.id)) (refused m LimitExceeded) torn (λ d. Each (MoveFrom q) d.moves) (λ e. tt)
     (λ e. each_append (MoveFrom q) (withdraws (is_of f.id) m) (TearDownAll f.id ∷ map (λ s. AtSide s.name (SendEnd f.id)) (sides_with_tasks m f.id)) (withdraws_from q (is_of f.id) m) (tt, mapped_from q (λ (s : Side). AtSide s.name (SendEnd f.id)) (λ s. tt) (sides_with_tasks m f.id)))
   where
-    torn : Doing
+    torn : MasterEffect
     torn = record { refusal = None; moves = withdraws (is_of f.id) m ++ TearDownAll f.id ∷ map (λ s. AtSide s.name (SendEnd f.id)) (sides_with_tasks m f.id); events = []; opens = []; closes = to_list f.stream; registers = with_framework m.registers (record f { stream = None }) }
 
 -- the jobs of an ACCEPT stand in its list
@@ -97,7 +97,7 @@ reconcile_from : (q : Call) (m : Master) (asked : List ReconciledTask) (f : Fram
 reconcile_from q m [] f = tt
 reconcile_from q m (a ∷ more) f = tt
 
-pub called_from : (m : Master) (stream : Option Numbered) (call : Call) → Each (MoveFrom call) (called m stream call).moves
+pub called_from : (m : Master) (stream : Option Numbered) (call : Call) → Each (MoveFrom call) (call_effect m stream call).moves
 called_from m stream (Subscribe None role) = if_from (Subscribe None role) (nat_le frameworks_limit (length m.registers.frameworks) || nat_le last_number m.registers.last_framework || nat_le last_number m.registers.last_stream) (refused m LimitExceeded) (subscribed m (record m.registers { last_framework = suc m.registers.last_framework }) (record { run = m.run.number; n = suc m.registers.last_framework }) role None) tt (withdraws_from (Subscribe None role) (is_of (record { run = m.run.number; n = suc m.registers.last_framework })) m)
 called_from m stream (Subscribe (Some id) role) = if_from (Subscribe (Some id) role) (is_unassigned m id) (refused m NoSuchFramework) (if nat_le last_number m.registers.last_stream then refused m LimitExceeded else (if is_torn m id then removed m else resubscribed m id role (framework_of m id))) tt
     (if_from (Subscribe (Some id) role) (nat_le last_number m.registers.last_stream) (refused m LimitExceeded) (if is_torn m id then removed m else resubscribed m id role (framework_of m id)) tt (if_from (Subscribe (Some id) role) (is_torn m id) (removed m) (resubscribed m id role (framework_of m id)) tt (resubscribed_from (Subscribe (Some id) role) m id role (framework_of m id))))
@@ -122,7 +122,7 @@ mapped_without f g (x ∷ xs) = (g x, mapped_without f g xs)
 withdraws_without : (test : Offer → Bool) (m : Master) → Each MoveWithout (withdraws test m)
 withdraws_without test m = mapped_without (withdraws_on test) (λ s. tt) m.sides
 
-if_without : (b : Bool) (x y : Doing) → Each MoveWithout x.moves → Each MoveWithout y.moves → Each MoveWithout (if b then x else y).moves
+if_without : (b : Bool) (x y : MasterEffect) → Each MoveWithout x.moves → Each MoveWithout y.moves → Each MoveWithout (if b then x else y).moves
 if_without true x y h k = h
 if_without false x y h k = k
 
@@ -145,7 +145,7 @@ mailed_as_without m s mail (Some refusal) = refusal_without refusal
     refusal_without NoSuchFramework = (tt, tt)
     refusal_without LimitExceeded = (tt, tt)
 
-pub mailed_without : (m : Master) (s : Side) (mail : AgentMail) → Each MoveWithout (mailed m s mail).moves
+pub mailed_without : (m : Master) (s : Side) (mail : AgentMail) → Each MoveWithout (mail_effect m s mail).moves
 mailed_without m s mail = mailed_as_without m s mail (judged m.run s mail)
 
 pub ticked_without : (m : Master) (now : ℕ) → Each MoveWithout (ticked m now).moves

@@ -5,15 +5,15 @@ use Rattle.std.proofs.lemmas.Bool.{cond_both, cases_Bool}
 use Rattle.names_core.specs.Ids.{Numbered, same}
 use Rattle.quantity.specs.declared.rows.Row.{Row}
 use Rattle.quantity.specs.Rows.{amount}
-use Rattle.mails.specs.declared.task.Job.{Job}
-use Rattle.mails.specs.declared.task.Booked.{Booked}
-use Rattle.mails.specs.declared.mail.AgentMail.{AgentMail}
-use Rattle.mails.specs.declared.mail.AgentMail.TheVariants.{Report, Applied, Update}
-use Rattle.mails.specs.declared.record.RecordedTask.{RecordedTask}
+use Rattle.messages.specs.declared.task.Job.{Job}
+use Rattle.messages.specs.declared.task.Booked.{Booked}
+use Rattle.messages.specs.declared.mail.AgentMail.{AgentMail}
+use Rattle.messages.specs.declared.mail.AgentMail.TheVariants.{Report, Applied, Update}
+use Rattle.messages.specs.declared.record.RecordedTask.{RecordedTask}
 use Rattle.cluster_model.specs.Agents.{Agent, Draft, has_ended, state_at, reported, front_of, fronts, front_at, report_of, owning, reopened, reports, recovered}
 use Rattle.cluster_model.specs.Sides.{unended, job_rows}
 use Rattle.cluster_model.specs.Channels.{InRun}
-use Rattle.cluster_safe.specs.Facts.{Less, Stake, Past, Within, Fades, live, task_stake, launches, coming, stakes, Distinct, EndsKept, AtMost, EndedAt, Grown, StateOk, IsReportOf, UpOk, drafted, mails_of, states_of, PastOk, Facts}
+use Rattle.cluster_safe.specs.Facts.{Less, TaskInFlight, Past, Within, Fades, live, task_stake, launches, coming, stakes, Distinct, EndsKept, AtMost, EndedAt, Grown, StateOk, IsReportOf, UpOk, drafted, mails_of, states_of, PastOk, Facts}
 use Rattle.cluster_safe.proofs.Orders.{each_append, each_map, each_both, each_left, within_refl, within_trans, fades_refl, fades_append, each_faded, grown_aged, distinct_faded, order_faded, live_faded}
 use Rattle.cluster_safe.proofs.Amounts.{within_at_most}
 use Rattle.cluster_safe.proofs.Commands.{ends_faded}
@@ -109,7 +109,7 @@ unended_reported : (ts : List RecordedTask) → unended (map reported ts) ≡ li
 unended_reported [] = refl
 unended_reported (t ∷ ts) = elim (cases_Bool (has_ended t)) [ inl e ↦ rw e (unended_reported ts) | inr e ↦ rw e (ap (λ js. t.job ∷ js) (unended_reported ts)) ]
 
-pub live_left : (xs ys : List Stake) → Within (live xs) (live (xs ++ ys))
+pub live_left : (xs ys : List TaskInFlight) → Within (live xs) (live (xs ++ ys))
 live_left xs ys = subst (λ zs. Within (live zs) (live (xs ++ ys))) (append-nil xs) (live_faded (xs ++ []) (xs ++ ys) (fades_append xs xs [] ys (fades_refl xs) tt))
 
 pub report_ok : (p : Past) (next : Numbered) (total : List Row) (a : Agent) → PastOk p → StateOk p next total a → UpOk p next (a ∷ []) (report_of a)
@@ -130,7 +130,7 @@ report_ok p next total a past s = (
             nothing (suc n) = refl
 
 -- each task's mark is that of its key
-marks : (ts : List RecordedTask) (rest : List Stake) → Distinct (map task_stake ts ++ rest) → Each (λ t. has_ended t ≡ true → EndedAt t.job.key (map task_stake ts ++ rest)) ts
+marks : (ts : List RecordedTask) (rest : List TaskInFlight) → Distinct (map task_stake ts ++ rest) → Each (λ t. has_ended t ≡ true → EndedAt t.job.key (map task_stake ts ++ rest)) ts
 marks [] rest d = tt
 marks (t ∷ ts) rest d = (
   λ e. ((λ same. e), each_map (λ s. s.job.key ≢ t.job.key) (λ s. s.job.key ≡ t.job.key → s.ended ≡ true) (λ s differ same. absurd (differ same)) (map task_stake ts ++ rest) d.0),

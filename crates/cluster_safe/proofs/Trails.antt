@@ -4,7 +4,7 @@ use Rattle.std.specs.Prelude.{⊤}
 use Rattle.std.specs.List.{AllByRecursion as Each, list_any}
 use Rattle.std.proofs.lemmas.Bool.{cond_both, cond-true, or_left, or_right, and_from}
 use Rattle.names_core.specs.Ids.{Numbered, same}
-use Rattle.mails.specs.declared.task.Offer.{Offer}
+use Rattle.messages.specs.declared.task.Offer.{Offer}
 use Rattle.cluster_model.specs.Ids.{is_among}
 use Rattle.cluster_model.specs.Sides.{is_named}
 use Rattle.cluster_safe.specs.Facts.{Less, UpTo}

@@ -7,11 +7,11 @@ use Rattle.names_core.specs.Ids.{Numbered, same}
 use Rattle.names_core.specs.declared.state.TaskState.{TaskState}
 use Rattle.quantity.specs.declared.rows.Row.{Row}
 use Rattle.quantity.specs.Rows.{covers}
-use Rattle.mails.specs.declared.task.Job.{Job}
-use Rattle.mails.specs.declared.mail.Command.{Command}
-use Rattle.mails.specs.declared.mail.Command.TheVariants.{Launch, Kill, Ack, EndFramework}
-use Rattle.mails.specs.declared.mail.MasterMail.TheVariants.{Issued}
-use Rattle.mails.specs.declared.record.Durable.{Durable}
+use Rattle.messages.specs.declared.task.Job.{Job}
+use Rattle.messages.specs.declared.mail.Command.{Command}
+use Rattle.messages.specs.declared.mail.Command.TheVariants.{Launch, Kill, Ack, EndFramework}
+use Rattle.messages.specs.declared.mail.MasterMail.TheVariants.{Issued}
+use Rattle.messages.specs.declared.record.RecordParts.{RecordParts}
 use Rattle.cluster_model.specs.Ids.{first_of_run, following, is_among}
 use Rattle.cluster_model.specs.Sides.{Run, Side, new_run, torn_down, offer_rows, taken, Sending, sends_nothing, issue, may_launch, books, Launching, launch_one, launch_all, is_good, used_offers, without_used, may_offer, halted, restarted, SideStep, MakeOffer, Withdraw, LaunchFrom, SendKill, SendAck, SendEnd, SendHello, SendAgain, Lose, side_step}
 use Rattle.cluster_model.specs.Channels.{Channel, InRun, ChannelStep, ByMaster, Receive, ByAgent, happens, World, Happening, At, TearDown, Restart, Halt, behind, in_front, at_agent, with_side, halted_run, after, open_world, Fits, AllFit}
@@ -152,10 +152,10 @@ world_after v w (TearDown framework) ok = record { of_run = ok.of_run; offer_of_
 world_after v w Restart ok = record { of_run = refl; offer_of_run = refl; kept = mapped v w.run (new_run (1 + w.run.number)) (with_side restarted) (λ c. kept_restarted (record { run = w.run; channel = c }) (below_next_run w.run.next_key w.run.number ok.of_run)) w.channels ok.kept }
 world_after v w Halt ok = record { of_run = ok.of_run; offer_of_run = ok.offer_of_run; kept = mapped v w.run (halted_run w.run) (with_side halted) (λ c. kept_halted (record { run = w.run; channel = c })) w.channels ok.kept }
 
-pub world_opened : (run : ℕ) (ds : List Durable) → AllGood run ds → WorldOk (λ name key. []) (open_world run ds)
+pub world_opened : (run : ℕ) (ds : List RecordParts) → AllGood run ds → WorldOk (λ name key. []) (open_world run ds)
 world_opened run ds good = record { of_run = refl; offer_of_run = refl; kept = each ds good }
   where
-    each : (ds : List Durable) → AllGood run ds → AllKept (λ name key. []) (open_world run ds)
+    each : (ds : List RecordParts) → AllGood run ds → AllKept (λ name key. []) (open_world run ds)
     each [] g = tt
     each (d ∷ ds) g = (kept_opening d run g.0, each ds g.1)
 

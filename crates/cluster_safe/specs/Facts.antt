@@ -5,18 +5,18 @@ use Rattle.names_core.specs.Ids.{Numbered, before}
 use Rattle.names_core.specs.declared.state.TaskState.{TaskState}
 use Rattle.quantity.specs.declared.rows.Row.{Row}
 use Rattle.quantity.specs.Rows.{amount}
-use Rattle.mails.specs.declared.task.Booked.{Booked}
-use Rattle.mails.specs.declared.task.Job.{Job}
-use Rattle.mails.specs.declared.mail.Command.{Command}
-use Rattle.mails.specs.declared.mail.Command.TheVariants.{Launch, Kill, Ack, EndFramework}
-use Rattle.mails.specs.declared.mail.MasterMail.{MasterMail}
-use Rattle.mails.specs.declared.mail.MasterMail.TheVariants.{Hello, Issued}
-use Rattle.mails.specs.declared.mail.AgentMail.{AgentMail}
-use Rattle.mails.specs.declared.mail.AgentMail.TheVariants.{Report, Applied, Update}
-use Rattle.mails.specs.declared.record.Durable.{Durable}
-use Rattle.mails.specs.declared.record.RecordedTask.{RecordedTask}
-use Rattle.mails.specs.declared.refusal.AgentRefusal.{AgentRefusal}
-use Rattle.mails.specs.declared.refusal.AgentRefusal.TheVariants.{NotForMe, OldSession, NotNext, NoSuchTask, Ended, NoRoom, UpdatesFull, SessionsSpent, TotalLess}
+use Rattle.messages.specs.declared.task.Booked.{Booked}
+use Rattle.messages.specs.declared.task.Job.{Job}
+use Rattle.messages.specs.declared.mail.Command.{Command}
+use Rattle.messages.specs.declared.mail.Command.TheVariants.{Launch, Kill, Ack, EndFramework}
+use Rattle.messages.specs.declared.mail.MasterMail.{MasterMail}
+use Rattle.messages.specs.declared.mail.MasterMail.TheVariants.{Hello, Issued}
+use Rattle.messages.specs.declared.mail.AgentMail.{AgentMail}
+use Rattle.messages.specs.declared.mail.AgentMail.TheVariants.{Report, Applied, Update}
+use Rattle.messages.specs.declared.record.RecordParts.{RecordParts}
+use Rattle.messages.specs.declared.record.RecordedTask.{RecordedTask}
+use Rattle.messages.specs.declared.refusal.AgentRefusal.{AgentRefusal}
+use Rattle.messages.specs.declared.refusal.AgentRefusal.TheVariants.{NotForMe, OldSession, NotNext, NoSuchTask, Ended, NoRoom, UpdatesFull, SessionsSpent, TotalLess}
 use Rattle.cluster_model.specs.Ids.{first_of_run, is_among}
 use Rattle.cluster_model.specs.Agents.{Agent, Draft, has_ended, receives_mail}
 use Rattle.cluster_model.specs.Sides.{unended, job_rows, taken}
@@ -29,7 +29,7 @@ abbrev pub UpTo : Numbered → Numbered → Type 0
 UpTo a b = before b a ≡ false
 
 -- a task or a launch, seen for what it takes
-pub record Stake : Type 0 where
+pub record TaskInFlight : Type 0 where
   pub job : Job
   pub ended : Bool
   pub states : List TaskState  -- its updates
@@ -51,7 +51,7 @@ Within [] ys = ⊤
 Within (x ∷ xs) [] = ⊥
 Within (x ∷ xs) (y ∷ ys) = ((x ≡ y) × Within xs ys) ⊎ Within (x ∷ xs) ys
 
-abbrev pub Aged : Stake → Stake → Type 0
+abbrev pub Aged : TaskInFlight → TaskInFlight → Type 0
 Aged new old =
     (new.job ≡ old.job) × (old.ended ≡ true → new.ended ≡ true)
     × (new.comes ≡ true → old.comes ≡ true)
@@ -59,19 +59,19 @@ Aged new old =
 
 -- the first are some of the second, in their order,
 -- and more of them may have ended, and have more updates
-abbrev pub Fades : List Stake → List Stake → Type 0
+abbrev pub Fades : List TaskInFlight → List TaskInFlight → Type 0
 Fades [] ys = ⊤
 Fades (x ∷ xs) [] = ⊥
 Fades (x ∷ xs) (y ∷ ys) = (Aged x y × Fades xs ys) ⊎ Fades (x ∷ xs) ys
 
-abbrev pub live : List Stake → List Job
+abbrev pub live : List TaskInFlight → List Job
 live [] = []
 live (s ∷ ss) = if s.ended then live ss else s.job ∷ live ss
 
-abbrev pub task_stake : RecordedTask → Stake
+abbrev pub task_stake : RecordedTask → TaskInFlight
 task_stake t = record { job = t.job; ended = has_ended t; states = t.updates.states; comes = false }
 
-abbrev pub launches : List Command → List Stake
+abbrev pub launches : List Command → List TaskInFlight
 launches [] = []
 launches (Launch job offers ∷ whats) =
     record { job = job; ended = false; states = []; comes = true } ∷ launches whats
@@ -80,27 +80,27 @@ launches (Ack key k ∷ whats) = launches whats
 launches (EndFramework framework ∷ whats) = launches whats
 
 -- the launches that the agent may still apply
-abbrev pub coming : Past → Agent → List Stake
+abbrev pub coming : Past → Agent → List TaskInFlight
 coming p a = if a.in_session then launches (drop a.applied (p.ever a.session)) else []
 
 -- all that is in the record or may still come into it
-abbrev pub stakes : Past → Agent → List Stake
+abbrev pub stakes : Past → Agent → List TaskInFlight
 stakes p a = map task_stake a.tasks ++ coming p a
 
-abbrev pub Distinct : List Stake → Type 0
+abbrev pub Distinct : List TaskInFlight → Type 0
 Distinct [] = ⊤
 Distinct (s ∷ ss) = Each (λ t. t.job.key ≢ s.job.key) ss × Distinct ss
 
 -- a launch that may still come has a key after all those before it
-abbrev pub InOrder : List Stake → Type 0
+abbrev pub InOrder : List TaskInFlight → Type 0
 InOrder [] = ⊤
 InOrder (s ∷ ss) = Each (λ t. t.comes ≡ true → Less s.job.key t.job.key) ss × InOrder ss
 
-abbrev pub NotOf : Numbered → List Stake → Type 0
+abbrev pub NotOf : Numbered → List TaskInFlight → Type 0
 NotOf framework ss = Each (λ s. s.job.framework ≢ framework) ss
 
 -- nothing is of a framework that one of the commands ends
-abbrev pub EndsKept : List Command → List Stake → Type 0
+abbrev pub EndsKept : List Command → List TaskInFlight → Type 0
 EndsKept [] ss = ⊤
 EndsKept (Launch job offers ∷ whats) ss = EndsKept whats ss
 EndsKept (Kill key ∷ whats) ss = EndsKept whats ss
@@ -128,11 +128,11 @@ abbrev pub AtMost : List Row → List Row → Type 0
 AtMost rows total = (name : List ℕ) → amount name rows ≤ amount name total
 
 -- that a key's stakes have ended
-abbrev pub EndedAt : Numbered → List Stake → Type 0
+abbrev pub EndedAt : Numbered → List TaskInFlight → Type 0
 EndedAt key ss = Each (λ s. s.job.key ≡ key → s.ended ≡ true) ss
 
 -- the updates that were recorded for its key are a beginning of its updates
-abbrev pub Grown : (Numbered → List TaskState) → Stake → Type 0
+abbrev pub Grown : (Numbered → List TaskState) → TaskInFlight → Type 0
 Grown sent s = (more : List TaskState) × (s.states ≡ sent s.job.key ++ more)
 
 -- the agent owns at least what the master takes to be its total,
@@ -244,11 +244,11 @@ RoomForAll c =
 
 -- a record over which a run may open: its live tasks fit, no launch key occurs twice, and its run
 -- and keys are below the opening's
-pub record IsGood (run : ℕ) (d : Durable) : Type 0 where
+pub record IsGood (run : ℕ) (d : RecordParts) : Type 0 where
   pub fits : AtMost (job_rows (live (map task_stake d.tasks))) d.total
   pub once : Distinct (map task_stake d.tasks)
   pub below : Each (λ s. Less s.job.key (first_of_run run)) (map task_stake d.tasks)
   pub later : d.run < run
 
-abbrev pub AllGood : ℕ → List Durable → Type 0
+abbrev pub AllGood : ℕ → List RecordParts → Type 0
 AllGood run ds = Each (IsGood run) ds

@@ -2,7 +2,7 @@
 use Rattle.std.specs.Prelude.{◌≡◌, ◌⊎◌, List, [], ◌∷◌, ◌++◌}
 use Rattle.std.specs.List.{AllByRecursion as Each}
 use Rattle.names_core.specs.declared.state.TaskState.{TaskState}
-use Rattle.mails.specs.declared.record.RecordedTask.{RecordedTask}
+use Rattle.messages.specs.declared.record.RecordedTask.{RecordedTask}
 
 -- a task of the same job was there, and its updates are a beginning of this task's
 abbrev pub Continues : List RecordedTask → RecordedTask → Type 0

@@ -4,16 +4,16 @@ use Rattle.std.specs.List.{list_any}
 use Rattle.names_core.specs.Ids.{Numbered, same}
 use Rattle.names_core.specs.Updates as updates
 use Rattle.names_core.specs.declared.state.TaskState.{TaskState}
-use Rattle.mails.specs.declared.task.Job.{Job}
-use Rattle.mails.specs.declared.call.Call.{Call}
-use Rattle.mails.specs.declared.call.Call.TheVariants.{Acknowledge}
-use Rattle.mails.specs.declared.record.Durable.{Durable}
-use Rattle.mails.specs.declared.record.RecordedTask.{RecordedTask}
+use Rattle.messages.specs.declared.task.Job.{Job}
+use Rattle.messages.specs.declared.call.Call.{Call}
+use Rattle.messages.specs.declared.call.Call.TheVariants.{Acknowledge}
+use Rattle.messages.specs.declared.record.RecordParts.{RecordParts}
+use Rattle.messages.specs.declared.record.RecordedTask.{RecordedTask}
 use Rattle.cluster_model.specs.Events.{Event, StreamEvent, Update}
-use Rattle.cluster_histories.specs.Clusters.{Post, Called, Entry}
-use Rattle.cluster_steps.specs.declared.step.Step.{Step}
-use Rattle.cluster_steps.specs.declared.step.Step.TheVariants.{Send}
-use Rattle.cluster_histories.specs.Steps.{History, Marked, extended, step_marked}
+use Rattle.cluster_model.specs.Clusters.{Post, Called, Entry}
+use Rattle.messages.specs.declared.steps.step.Step.{Step}
+use Rattle.messages.specs.declared.steps.step.Step.TheVariants.{Send}
+use Rattle.cluster_model.specs.Steps.{History, Marked, extended, step_marked}
 use Rattle.cluster_safe.specs.Acknowledged.{recorded_tasks}
 use Rattle.cluster_safe.specs.Origin.{IsOneOf}
 
@@ -77,7 +77,7 @@ counted key (t ∷ ts) =
 
 -- what a framework has acknowledged of a key: what the records of the opening count,
 -- and then each further number, where a call of it first names it
-abbrev pub acknowledged_by : List Durable → Numbered → Numbered → List Post → List ℕ
+abbrev pub acknowledged_by : List RecordParts → Numbered → Numbered → List Post → List ℕ
 acknowledged_by records framework key posts =
     fold (noted framework key) (up_to (counted key (recorded_tasks records))) posts
 

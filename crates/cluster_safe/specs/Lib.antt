@@ -9,3 +9,9 @@ pub mod Honest
 pub mod Updates
 pub mod Offered
 pub mod Growth
+pub mod Issued
+pub mod AcknowledgedAt
+pub mod Entries
+pub mod Launches
+pub mod Sources
+pub mod Acks

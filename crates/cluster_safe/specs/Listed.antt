@@ -2,10 +2,10 @@
 use Rattle.std.specs.Prelude.{◌≡◌, ◌⊎◌, ℕ, List, [], ◌∷◌, ⊤}
 use Rattle.std.specs.List.{AllByRecursion as Each}
 use Rattle.names_core.specs.Ids.{Numbered}
-use Rattle.mails.specs.declared.task.Job.{Job}
-use Rattle.mails.specs.declared.call.Call.{Call}
-use Rattle.mails.specs.declared.call.Call.TheVariants.{Accept}
-use Rattle.mails.specs.declared.call.TaskInfo.{TaskInfo}
+use Rattle.messages.specs.declared.task.Job.{Job}
+use Rattle.messages.specs.declared.call.Call.{Call}
+use Rattle.messages.specs.declared.call.Call.TheVariants.{Accept}
+use Rattle.messages.specs.declared.call.TaskInfo.{TaskInfo}
 use Rattle.cluster_model.specs.Sides.{SideStep, LaunchFrom, MakeOffer}
 use Rattle.cluster_model.specs.Masters.{Move, AtSide}
 

@@ -3,15 +3,15 @@ use Rattle.std.specs.Prelude.{◌≡◌, ◌≢◌, ◌⊎◌, ℕ, true, false,
 use Rattle.std.specs.List.{AllByRecursion as Each}
 use Rattle.names_core.specs.Ids.{Numbered}
 use Rattle.quantity.specs.declared.rows.Row.{Row}
-use Rattle.mails.specs.declared.task.Job.{Job}
-use Rattle.mails.specs.declared.task.Offer.{Offer}
-use Rattle.mails.specs.declared.record.Durable.{Durable}
+use Rattle.messages.specs.declared.task.Job.{Job}
+use Rattle.messages.specs.declared.task.Offer.{Offer}
+use Rattle.messages.specs.declared.record.RecordParts.{RecordParts}
 use Rattle.cluster_model.specs.Ids.{is_among, is_empty}
 use Rattle.cluster_model.specs.Sides.{Run, Side, SideStep, MakeOffer, LaunchFrom, Launching, launch_one, may_launch, may_offer, is_good, used_offers, without_used, sends_nothing, offer_rows, job_rows}
 use Rattle.cluster_model.specs.Channels.{Channel, ChannelStep, ByMaster, World, Happening, At, after, open_world}
 use Rattle.cluster_model.specs.Events.{MadeOffer}
 use Rattle.cluster_model.specs.Openings.{KeysOnce, recorded_jobs}
-use Rattle.cluster_histories.specs.Steps.{Setup, Marked, history}
+use Rattle.cluster_model.specs.Steps.{Setup, Marked, history}
 use Rattle.cluster_safe.specs.Facts.{AtMost}
 
 -- an ACCEPT of good offers: the offers that it used, and the jobs that it launched
@@ -73,7 +73,7 @@ trail [] w marks = marks
 trail (h ∷ hs) w marks = trail hs (after w h) (marks_by w h ++ marks)
 
 -- the trail of a list of steps, from an opening
-abbrev pub trail_after : Setup → List Durable → List Marked → List Mark
+abbrev pub trail_after : Setup → List RecordParts → List Marked → List Mark
 trail_after setup records steps =
     trail (history setup records steps).happenings (open_world setup.run records) []
 
@@ -115,7 +115,7 @@ jobs_on agent (Used u ∷ older) =
     if bytes_eq u.agent agent then u.jobs ++ jobs_on agent older else jobs_on agent older
 
 -- the tasks that were in an agent's record at the opening
-abbrev pub recorded_on : List ℕ → List Durable → List Job
+abbrev pub recorded_on : List ℕ → List RecordParts → List Job
 recorded_on agent [] = []
 recorded_on agent (d ∷ ds) =
     if bytes_eq d.name agent then map (λ t. t.job) d.tasks ++ recorded_on agent ds
@@ -139,11 +139,11 @@ IsTrail (Used u ∷ older) =
     IsCovered u × Each (λ o. WasMade u.agent o older × NotUsed o.id older) u.offers × IsTrail older
 
 -- a job that was launched on an agent, or was in its record at the opening
-abbrev pub From : List Durable → List ℕ → List Mark → Job → Type 0
+abbrev pub From : List RecordParts → List ℕ → List Mark → Job → Type 0
 From records agent marks j = IsOneOf j (jobs_on agent marks) ⊎ IsOneOf j (recorded_on agent records)
 
 -- each task of a record was launched on its agent by exactly one use, or was there at the opening
-pub record HasOrigin (records : List Durable) (w : World) (marks : List Mark) : Type 0 where
+pub record HasOrigin (records : List RecordParts) (w : World) (marks : List Mark) : Type 0 where
   pub tasks : Each (λ c. Each (λ t. From records c.side.name marks t.job) c.agent.durable.tasks)
       w.channels
   pub once : KeysOnce (jobs_of marks ++ recorded_jobs records)

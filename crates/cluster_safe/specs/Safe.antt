@@ -1,10 +1,10 @@
 -- Safe: what holds after every list of steps.
 use Rattle.std.specs.Prelude.{◌≢◌}
 use Rattle.std.specs.List.{AllByRecursion as Each}
-use Rattle.mails.specs.declared.refusal.AgentRefusal.TheVariants.{NoRoom}
-use Rattle.cluster_histories.specs.Clusters.{Entry}
-use Rattle.cluster_steps.specs.declared.verdict.Verdict.TheVariants.{AgentRefused}
-use Rattle.cluster_histories.specs.Steps.{History}
+use Rattle.messages.specs.declared.refusal.AgentRefusal.TheVariants.{NoRoom}
+use Rattle.cluster_model.specs.Clusters.{Entry}
+use Rattle.messages.specs.declared.steps.verdict.Verdict.TheVariants.{AgentRefused}
+use Rattle.cluster_model.specs.Steps.{History}
 
 -- no entry of the history is a refusal of an agent for want of room
 abbrev pub NeverLacksRoom : History → Type 0

@@ -4,12 +4,12 @@ use Rattle.std.specs.List.{AllByRecursion as Each}
 use Rattle.names_core.specs.Ids.{Numbered, same}
 use Rattle.names_core.specs.declared.state.TaskState.{TaskState}
 use Rattle.names_core.specs.Updates as updates
-use Rattle.mails.specs.declared.record.Durable.{Durable}
-use Rattle.mails.specs.declared.record.RecordedTask.{RecordedTask}
+use Rattle.messages.specs.declared.record.RecordParts.{RecordParts}
+use Rattle.messages.specs.declared.record.RecordedTask.{RecordedTask}
 use Rattle.cluster_model.specs.Channels.{Channel, World, Happening, after, open_world}
 use Rattle.cluster_model.specs.Events.{Event, StreamEvent, Update}
-use Rattle.cluster_histories.specs.Clusters.{Entry}
-use Rattle.cluster_histories.specs.Steps.{History, Setup, Marked, history}
+use Rattle.cluster_model.specs.Clusters.{Entry}
+use Rattle.cluster_model.specs.Steps.{History, Setup, Marked, history}
 use Rattle.cluster_safe.specs.Acknowledged.{recorded_tasks}
 
 abbrev pub longer : List TaskState → List TaskState → List TaskState
@@ -39,7 +39,7 @@ abbrev pub updates_of : Numbered → List Happening → World → List TaskState
 updates_of key hs start = updates_over key hs start (recorded_states key start)
 
 -- the updates of a key over a list of steps, from an opening
-abbrev pub updates_after : Numbered → Setup → List Durable → List Marked → List TaskState
+abbrev pub updates_after : Numbered → Setup → List RecordParts → List Marked → List TaskState
 updates_after key setup records steps =
     updates_of key (history setup records steps).happenings (open_world setup.run records)
 
@@ -92,6 +92,6 @@ HandsUpdates start h =
 
 -- the records of an opening acknowledge no more updates than there are,
 -- as every value of `Updates` does
-abbrev pub AcknowledgeTheirs : List Durable → Type 0
+abbrev pub AcknowledgeTheirs : List RecordParts → Type 0
 AcknowledgeTheirs records =
     Each (λ t. t.updates.acknowledged ≤ length t.updates.states) (recorded_tasks records)

@@ -67,8 +67,9 @@ files of the folder while no server uses it, or each store by the `.backup` of s
 (`ulimit -f`) ends the process by its signal, unless that is ignored where it is started.
 
 Started again on the same folder, the agents come up over their records, with their tasks, and frameworks resubscribe by their ids.
-One server uses a folder at a time: `master.db` is locked from before its first read until the server ends, each agent's store from
-its load until the agent's activity ends, and a second server ends at once (K1 Store).
+One server uses a folder at a time: `master.db` is locked from before its first read until the server ends, and a second server ends
+at once (K1 Store). Each agent's store is locked from before the agent's first step until its activity ends. Where it keeps another
+record then than it was loaded with, that agent takes no step (K2 Damaged), and the server ends or goes on without it, as below.
 
 The master makes a round of offers each `--interval` seconds. With `--offer-seconds` N an offer that its framework has left
 unanswered for N seconds is declined for it, and what it had isn't offered to that framework again for N seconds: so one that

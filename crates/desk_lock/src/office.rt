@@ -1,16 +1,16 @@
 //! A desk under a lock.
 
 ghost use Rattle.std.specs.Prelude.{◌≡◌, ◌≤◌, ◌+◌, [], Err, None, IfOk, IfErr, IfNone, OnErr, All, MatchOption, MatchResult, length, sum_by};
-ghost use Rattle.desk_seats.specs.Receipts.{IsAnswered, StandsIn};
+ghost use Rattle.desk_core.specs.Receipts.{IsAnswered, StandsIn};
 ghost use Rattle.std.specs.Fn.{FnReturnsAt};
 ghost use Rattle.desk_lock.specs.Waits.{HasStopped, IsWaited, WaitEnds, WaitStops};
 ghost use Rattle.desk_lock.specs.declared.office.Turn.TheVariants.{End};
-ghost use Rattle.desk_seats.specs.Found.{IsNextSeat, IsRefusedCall, IsRefusedSeat, IsRefusedWait};
-ghost use Rattle.desk_seats.specs.Refused.{refused_by};
-ghost use Rattle.desk_seats.specs.declared.fault.OfficeFault.TheVariants.{ForeignPass};
+ghost use Rattle.desk_core.specs.Found.{IsNextSeat, IsRefusedCall, IsRefusedSeat, IsRefusedWait};
+ghost use Rattle.desk_core.specs.Refused.{refused_by};
+ghost use Rattle.desk_core.specs.declared.fault.OfficeFault.TheVariants.{ForeignPass};
 
 use crate::groups::Groups;
-use desk_seats::{
+use desk_core::{
     Answered, Desk, Freed, OfficeFault, Pass, Passes, Recorded, SeatedHistory, refusal,
 };
 use std::alloc::Global;

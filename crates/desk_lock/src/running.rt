@@ -1,16 +1,17 @@
 //! An office over a cluster that runs.
 
 ghost use Rattle.std.specs.Prelude.{◌≡◌, None, IfErr, IfOk, MatchOption, OnErr};
-ghost use Rattle.cluster_steps.specs.declared.fault.ClusterFault.TheVariants.{NoSuchAgent};
-ghost use Rattle.cluster_steps.specs.declared.step.Step.TheVariants.{Take};
+ghost use Rattle.messages.specs.declared.steps.fault.ClusterFault.TheVariants.{NoSuchAgent};
+ghost use Rattle.messages.specs.declared.steps.step.Step.TheVariants.{Take};
 ghost use Rattle.desk_lock.specs.Answering.{Answers};
 ghost use Rattle.desk_lock.specs.Waits.{LacksAgent, StreamEnds, Wakes, turn_of, wake_of};
-ghost use Rattle.desk_seats.specs.Found.{IsRefusedWait};
+ghost use Rattle.desk_core.specs.Found.{IsRefusedWait};
 
 use crate::office::{Office, Turn, Waited};
-use desk_seats::{Answered, OfficeFault, Pass};
+use desk_core::{
+    Answered, Awaited, ClusterFault, Given, KeptEntry, OfficeFault, Pass, Running, Step,
+};
 use names_core::{AgentName, StreamId};
-use running_clusters::{Awaited, ClusterFault, Given, KeptEntry, Running, Step};
 use std::alloc::Global;
 use std::sync::{Wait, ledger};
 use std::time::{Clock, Duration};

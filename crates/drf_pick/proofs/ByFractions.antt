@@ -2,9 +2,9 @@
 use Rattle.std.proofs.Common.{◌≡◌, ℕ, Bool, true, false, ◌||◌, List, refl, sym, ap, ◌∙◌}
 use Rattle.quantity.specs.declared.rows.Row.{Row}
 use Rattle.cluster_model.specs.Rounds.{Share, stands_at_most_at, stands_first}
-use Rattle.share_sums.specs.Sums.{IsSum}
-use Rattle.share_sums.specs.Dominant.{IsDominant, Part, is_at_most}
-use Rattle.share_sums.proofs.Dominating.{decides}
+use Rattle.drf_shares.specs.Sums.{IsSum}
+use Rattle.drf_shares.specs.Dominant.{IsDominant, Part, is_at_most}
+use Rattle.drf_shares.proofs.Dominating.{decides}
 
 -- the dominant shares of two
 pub record Compared (totals : List Row) (a b : Share) (f g : Part) : Type 0 where

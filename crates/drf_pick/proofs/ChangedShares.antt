@@ -4,8 +4,8 @@ use Rattle.std.specs.Prelude.{option_map, is_some}
 use Rattle.std.specs.List.{find}
 use Rattle.names_core.specs.Ids.{Numbered}
 use Rattle.quantity.specs.declared.rows.Row.{Row}
-use Rattle.share_sums.specs.Dominant.{Part, nothing}
-use Rattle.share_sums.specs.Sums.{plus_rows}
+use Rattle.drf_shares.specs.Dominant.{Part, nothing}
+use Rattle.drf_shares.specs.Sums.{plus_rows}
 use Rattle.drf_pick.specs.Shares.{Holder, RoleSum, Tally, any_role, at_first, given, given_holders, given_roles, given_to, held_more, holder_of, holder_with, holding, is_holder, is_role, of_role, returned_holders, returned_roles, returning, role_given, role_holding, role_returning, role_sum_of, roles_moved, roles_weighed, roles_with, weighing, with_holder, with_role}
 use Rattle.drf_pick.specs.Fractions.{OfHolders, OfOthers, OfRoles, OfRolesBut, holder_held, role_held}
 use Rattle.drf_pick.proofs.KeptShares.{found_changed, held_same, kept, more_to, one_more, others, others_more}

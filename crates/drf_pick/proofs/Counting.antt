@@ -4,9 +4,9 @@ use Rattle.std.specs.List.{AllByRecursion, find, list_any, fold}
 use Rattle.names_core.specs.Ids.{Numbered, same}
 use Rattle.quantity.specs.Rows.{amount}
 use Rattle.quantity.proofs.Amounts.{amount-append}
-use Rattle.share_sums.specs.declared.fault.SharesFault.{SharesFault}
-use Rattle.share_sums.specs.declared.fault.SharesFault.TheVariants.{OutOfMemory}
-use Rattle.share_sums.specs.Sums.{greatest_sum}
+use Rattle.drf_shares.specs.declared.fault.SharesFault.{SharesFault}
+use Rattle.drf_shares.specs.declared.fault.SharesFault.TheVariants.{OutOfMemory}
+use Rattle.drf_shares.specs.Sums.{greatest_sum}
 use Rattle.drf_pick.specs.Shares.{CanHold, Holder, Tally, all_held, is_holder, with_holder, with_role}
 use Rattle.drf_pick.proofs.HeldRows.{held_all}
 use Rattle.drf_pick.specs.Allocations.{AddUp, Allocation, Client, Found, all_rows, allocated, rows_to}

@@ -5,8 +5,8 @@ use Rattle.std.specs.List.{AllByRecursion, find}
 use Rattle.names_core.specs.Ids.{Numbered, same}
 use Rattle.quantity.specs.Rows.{amount, covers}
 use Rattle.quantity.proofs.Amounts.{covers_is_at_least}
-use Rattle.share_sums.specs.declared.fault.SharesFault.{SharesFault}
-use Rattle.share_sums.specs.declared.fault.SharesFault.TheVariants.{NotHeld, OutOfMemory}
+use Rattle.drf_shares.specs.declared.fault.SharesFault.{SharesFault}
+use Rattle.drf_shares.specs.declared.fault.SharesFault.TheVariants.{NotHeld, OutOfMemory}
 use Rattle.drf_pick.specs.Shares.{Holder, RoleSum, Tally, can_back, holder_has, is_holder, is_role, role_has}
 use Rattle.drf_pick.specs.Least.{role_share}
 use Rattle.drf_pick.specs.Allocations.{Allocation, Client}

@@ -5,7 +5,7 @@ use Rattle.names_core.specs.Ids.{Numbered}
 use Rattle.quantity.specs.declared.rows.Row.{Row}
 use Rattle.quantity.specs.Rows.{amount}
 use Rattle.quantity.proofs.Amounts.{amount-append}
-use Rattle.share_sums.specs.Sums.{AddUp}
+use Rattle.drf_shares.specs.Sums.{AddUp}
 use Rattle.drf_pick.specs.Shares.{CanHold, Holder, Tally, all_held, given_holders, holding, is_holder}
 use Rattle.drf_pick.specs.Allocations.{Allocation, Client, all_rows, allocated, role_rows, rows_to}
 use Rattle.drf_pick.specs.Shown.{ClientsOnce, HoldersShow, NoneOf, TallyShows}

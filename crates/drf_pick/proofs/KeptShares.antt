@@ -5,8 +5,8 @@ use Rattle.std.specs.List.{position, find}
 use Rattle.std.proofs.lemmas.List.{get_or_default}
 use Rattle.std.proofs.lemmas.List.Quantifiers.{position-Some}
 use Rattle.quantity.specs.declared.rows.Row.{Row}
-use Rattle.share_sums.specs.Dominant.{IsDominant, Part, nothing}
-use Rattle.share_sums.proofs.Dominating.{nothing_held}
+use Rattle.drf_shares.specs.Dominant.{IsDominant, Part, nothing}
+use Rattle.drf_shares.proofs.Dominating.{nothing_held}
 use Rattle.drf_pick.specs.Shares.{at_first}
 use Rattle.drf_pick.specs.Fractions.{AreDominant, AreDominantBut}
 use Rattle.drf_pick.proofs.Places.{first_at, found_at}

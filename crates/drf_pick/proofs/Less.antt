@@ -7,7 +7,7 @@ use Rattle.quantity.specs.declared.rows.Row.{Row}
 use Rattle.quantity.specs.Rows.{amount, rest_of}
 use Rattle.quantity.proofs.Amounts.{amount-append}
 use Rattle.quantity.proofs.Rests.{amount-rest}
-use Rattle.share_sums.specs.Sums.{IsSum}
+use Rattle.drf_shares.specs.Sums.{IsSum}
 use Rattle.drf_pick.specs.Shares.{Holder, RoleSum, Tally, at_first, is_holder, is_role, returned, returned_holders, returned_roles, returning, role_returning}
 use Rattle.drf_pick.specs.Allocations.{Client, Allocation, role_rows, rows_to}
 use Rattle.drf_pick.specs.Shown.{ClientsOnce, HoldSums, HoldersShow, NoneOf, RolesShow, SameAllocations, Shows, TallyShows, is_known}

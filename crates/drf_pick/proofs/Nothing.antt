@@ -7,10 +7,10 @@ use Rattle.names_core.specs.Ids.{before}
 use Rattle.quantity.specs.declared.rows.Row.{Row}
 use Rattle.quantity.specs.Rows.{amount}
 use Rattle.cluster_model.specs.Rounds.{Share, is_at_most_at, share, stands_at_most_at}
-use Rattle.share_sums.specs.Dominant.{IsDominant, Part}
-use Rattle.share_sums.specs.Lists.{Among}
-use Rattle.share_sums.proofs.Lists.{all_from, any_from}
-use Rattle.share_sums.proofs.Dominating.{no_factor}
+use Rattle.drf_shares.specs.Dominant.{IsDominant, Part}
+use Rattle.drf_shares.specs.Lists.{Among}
+use Rattle.drf_shares.proofs.Lists.{all_from, any_from}
+use Rattle.drf_shares.proofs.Dominating.{no_factor}
 use Rattle.drf_pick.specs.Shares.{Holder, Tally}
 use Rattle.drf_pick.specs.Least.{comes_before}
 

@@ -2,7 +2,7 @@
 use Rattle.std.proofs.Common.{◌≡◌, Bool, true, false, not, ◌&&◌, ◌||◌, ◌⊎◌, inl, inr, refl}
 use Rattle.std.proofs.lemmas.Bool.{true≢false, and_parts, and_from, or_cases, cases_Bool, both_ways, not-true}
 use Rattle.drf_pick.specs.Orders.{IsPreorder}
-use Rattle.share_sums.proofs.Lists.{or_left, or_right}
+use Rattle.drf_shares.proofs.Lists.{or_left, or_right}
 
 -- by the first test, and where that ties by the second
 abbrev pub comes_first : {X : Type 0} → (X → X → Bool) → (X → X → Bool) → X → X → Bool

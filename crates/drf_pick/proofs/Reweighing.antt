@@ -3,7 +3,7 @@ use Rattle.std.proofs.Common.{◌≡◌, ℕ, Bool, true, false, cond, List, [],
 use Rattle.std.specs.List.{AllByRecursion, find}
 use Rattle.std.specs.Cmp.Lexicographic.{bytes_decides}
 use Rattle.quantity.specs.Rows.{amount}
-use Rattle.role_weights.specs.Weights.{RoleWeight, weight_of}
+use Rattle.names_core.specs.Weights.{RoleWeight, weight_of}
 use Rattle.drf_pick.specs.Shares.{RoleSum, Tally, all_weighed, is_role, reweighed}
 use Rattle.drf_pick.specs.Least.{role_share, share_of_sum}
 use Rattle.drf_pick.specs.Allocations.{Allocation, Client}

@@ -7,7 +7,7 @@ use Rattle.quantity.specs.Rows.{amount, covers, rest_of}
 use Rattle.quantity.proofs.Amounts.{amount-append, covers_is_at_least}
 use Rattle.quantity.proofs.Rests.{amount-rest}
 use Rattle.quantity.proofs.Sums.{sums_add_up}
-use Rattle.share_sums.specs.Sums.{CanAdd, IsSum, plus_rows}
+use Rattle.drf_shares.specs.Sums.{CanAdd, IsSum, plus_rows}
 use Rattle.drf_pick.specs.Shares.{AreUpTo, Holder, HoldersOnce, RoleSum, holder_has, returned_roles, role_has, all_held, at_first, given_holders, held_in, holder_of, holding, is_holder, is_known, is_role, of_role, returned_holders, returning, role_given, role_holding, role_returning, role_sum_of, roles_moved, roles_moved_of, roles_weighed, roles_with, weighing, with_held}
 use Rattle.drf_pick.specs.Least.{role_share}
 use Rattle.drf_pick.specs.RoleSums.{AreSums}

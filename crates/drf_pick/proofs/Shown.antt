@@ -5,12 +5,12 @@ use Rattle.std.specs.Cmp.Lexicographic.{bytes_decides}
 use Rattle.names_core.specs.Ids.{Numbered, same}
 use Rattle.quantity.specs.declared.rows.Row.{Row}
 use Rattle.quantity.specs.Rows.{amount}
-use Rattle.share_sums.specs.Sums.{plus_rows}
+use Rattle.drf_shares.specs.Sums.{plus_rows}
 use Rattle.quantity.proofs.Sums.{sums_add_up}
 use Rattle.drf_pick.specs.Shares.{Holder, RoleSum, Tally, at_first, given_holders, given_roles, holding, is_holder, is_role, role_holding}
 use Rattle.drf_pick.specs.Least.{role_share, share_of_sum}
 use Rattle.drf_pick.specs.Allocations.{Client, Allocation, allocated, role_rows, rows_to}
-use Rattle.role_weights.specs.Weights.{RoleWeight}
+use Rattle.names_core.specs.Weights.{RoleWeight}
 use Rattle.drf_pick.specs.Shown.{ClientsOnce, HoldersShow, NoneOf, RolesShow, Shows, TallyShows, WeightsShow, is_known}
 use Rattle.drf_pick.proofs.KeptShares.{found_changed}
 use Rattle.drf_pick.proofs.AllocationRows.{none_of_same, part, role-append, role-one, role_part, same_back, to-more}

@@ -9,8 +9,8 @@ use Rattle.quantity.proofs.Amounts.{amount-cons, part_of_own}
 use Rattle.cluster_model.specs.Rounds.{Share, is_at_most_at, stands_at_most_at}
 use Rattle.drf_pick.specs.Orders.{Among}
 use Rattle.drf_pick.specs.Laws.{Amounts, ArePositive, StandsAtMost, TestIsRelation, AmountsDecide, StandingIsOrder, amounts_of}
-use Rattle.share_sums.proofs.Dominating.{cross}
-use Rattle.share_sums.proofs.Lists.{all_at, all_from, all_not, any_from, any_at, any_not}
+use Rattle.drf_shares.proofs.Dominating.{cross}
+use Rattle.drf_shares.proofs.Lists.{all_at, all_from, all_not, any_from, any_at, any_not}
 
 some_more : (t w : ℕ) → 0 < t → 0 < w → 0 < t * w
 some_more zero w h k = absurd (omega arith)

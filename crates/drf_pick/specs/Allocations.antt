@@ -4,7 +4,7 @@ use Rattle.std.specs.Prelude.{ℕ, if◌then◌else◌, List, [], flat_map, byte
 use Rattle.names_core.specs.Ids.{Numbered, same}
 use Rattle.quantity.specs.declared.rows.Row.{Row}
 use Rattle.drf_pick.specs.Shares.{Tally, held_more}
-pub use Rattle.share_sums.specs.Sums.{AddUp}
+pub use Rattle.drf_shares.specs.Sums.{AddUp}
 pub use Rattle.drf_pick.specs.declared.holder.Client.{Client}
 pub use Rattle.drf_pick.specs.declared.counted.Allocation.{Allocation}
 pub use Rattle.drf_pick.specs.declared.counted.Found.{Found}

@@ -2,7 +2,7 @@
 use Rattle.std.specs.Prelude.{◌≡◌, ℕ, List, None, Some}
 use Rattle.std.specs.List.{position}
 use Rattle.names_core.specs.Ids.{Numbered}
-use Rattle.share_sums.specs.Dominant.{IsDominant, nothing}
+use Rattle.drf_shares.specs.Dominant.{IsDominant, nothing}
 use Rattle.drf_pick.specs.Shares.{Tally, is_holder, is_role}
 use Rattle.drf_pick.specs.Least.{held_by, role_share}
 use Rattle.drf_pick.specs.declared.client_share.ClientPlace.{ClientPlace}

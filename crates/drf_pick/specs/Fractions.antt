@@ -2,9 +2,9 @@
 use Rattle.std.specs.Prelude.{ℕ, Bool, ⊤, List, [], ◌∷◌, Option, Some, None, MatchBool}
 use Rattle.quantity.specs.declared.rows.Row.{Row}
 use Rattle.names_core.specs.Ids.{Numbered}
-use Rattle.share_sums.specs.Dominant.{IsDominant}
+use Rattle.drf_shares.specs.Dominant.{IsDominant}
 use Rattle.drf_pick.specs.Shares.{Holder, RoleSum, is_holder, is_role}
-pub use Rattle.share_sums.specs.Dominant.{Part}
+pub use Rattle.drf_shares.specs.Dominant.{Part}
 
 -- the dominant share of each is at its place; there may be more parts after them
 abbrev pub AreDominant : {X : Type 0} → (X → List Row) → List Row → List X → List Part → Type 0

@@ -5,7 +5,7 @@ use Rattle.names_core.specs.Ids.{Numbered, before}
 use Rattle.quantity.specs.declared.rows.Row.{Row}
 use Rattle.cluster_model.specs.Ids.{bytes_before}
 use Rattle.cluster_model.specs.Rounds.{Share, share, stands_at_most_at, stands_first}
-use Rattle.share_sums.specs.Lists.{Among}
+use Rattle.drf_shares.specs.Lists.{Among}
 use Rattle.drf_pick.specs.Shares.{Tally, Holder, RoleSum, is_holder, is_role}
 pub use Rattle.drf_pick.specs.declared.holder.Client.{Client}
 

@@ -1,6 +1,6 @@
 -- Orders.
 use Rattle.std.specs.Prelude.{◌≡◌, Bool, true, false}
-pub use Rattle.share_sums.specs.Lists.{Among}
+pub use Rattle.drf_shares.specs.Lists.{Among}
 
 -- a test that compares any two, and is transitive
 pub record IsPreorder {X : Type 0} (le : X → X → Bool) : Type 0 where

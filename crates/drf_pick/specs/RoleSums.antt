@@ -2,7 +2,7 @@
 use Rattle.std.specs.Prelude.{◌≡◌, ℕ, true, List}
 use Rattle.std.specs.List.{AllByRecursion}
 use Rattle.quantity.specs.Laws.{SameAmounts}
-use Rattle.share_sums.specs.Sums.{AddUp}
+use Rattle.drf_shares.specs.Sums.{AddUp}
 use Rattle.drf_pick.specs.Shares.{Holder, RoleSum, all_held, held_in, is_known}
 use Rattle.drf_pick.specs.Least.{role_share}
 

@@ -4,8 +4,8 @@ use Rattle.std.specs.List.{AllByRecursion, find, list_any}
 use Rattle.names_core.specs.Ids.{Numbered, before, same}
 use Rattle.quantity.specs.declared.rows.Row.{Row}
 use Rattle.quantity.specs.Rows.{covers, rest_of}
-use Rattle.role_weights.specs.Weights.{RoleWeight, weight_of}
-use Rattle.share_sums.specs.Sums.{CanAdd, plus_rows}
+use Rattle.names_core.specs.Weights.{RoleWeight, weight_of}
+use Rattle.drf_shares.specs.Sums.{CanAdd, plus_rows}
 pub use Rattle.drf_pick.specs.declared.holder.Holder.{Holder}
 pub use Rattle.drf_pick.specs.declared.holder.RoleSum.{RoleSum}
 

@@ -5,10 +5,10 @@ use Rattle.names_core.specs.Ids.{Numbered, same}
 use Rattle.quantity.specs.declared.rows.Row.{Row}
 use Rattle.quantity.specs.Rows.{amount}
 use Rattle.quantity.specs.Laws.{SameAmounts}
-use Rattle.role_weights.specs.Weights.{RoleWeight, weight_of}
-use Rattle.share_sums.specs.Sums.{IsSum}
-use Rattle.share_sums.specs.declared.fault.SharesFault.{SharesFault}
-use Rattle.share_sums.specs.declared.fault.SharesFault.TheVariants.{OutOfMemory}
+use Rattle.names_core.specs.Weights.{RoleWeight, weight_of}
+use Rattle.drf_shares.specs.Sums.{IsSum}
+use Rattle.drf_shares.specs.declared.fault.SharesFault.{SharesFault}
+use Rattle.drf_shares.specs.declared.fault.SharesFault.TheVariants.{OutOfMemory}
 pub use Rattle.drf_pick.specs.Shares.{is_known}
 use Rattle.drf_pick.specs.Shares.{Tally, Holder, RoleSum, is_holder, is_role}
 use Rattle.drf_pick.specs.Least.{role_share}

@@ -2,13 +2,13 @@
 
 ghost use Rattle.std.specs.Prelude.{◌≡◌, ◌<◌, ℕ, List, length, nat_eq, IfSome};
 ghost use Rattle.names_core.specs.Ids.{Numbered};
-ghost use Rattle.share_sums.specs.Dominant.{IsDominant};
+ghost use Rattle.drf_shares.specs.Dominant.{IsDominant};
 ghost use Rattle.drf_pick.specs.Least.{held_by};
 ghost use Rattle.drf_pick.specs.ClientShares.{IsPlaceOf, IsRoleShare, IsClientShare, no_share};
 
 use crate::shares::Shares;
+use drf_shares::Fraction;
 use names_core::{FrameworkId, RoleName};
-use share_sums::Fraction;
 
 /// A role's dominant share.
 #[derive(Clone, Copy, Drop)]

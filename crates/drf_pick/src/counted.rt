@@ -8,9 +8,9 @@ ghost use Rattle.drf_pick.specs.Shares.{CanHold, held_more};
 ghost use Rattle.drf_pick.specs.Shown.{AllCounted, AreCounted, ClientsOnce, IsCounted, HasNone, MemoryRefused, Moves, NoneOf, SameFound, StayCounted, TakesBack, TallyShows, all_found, counted_in, counted_of, due_in, is_for, uncounted};
 
 use crate::shares::Shares;
+use drf_shares::SharesFault;
 use names_core::{FrameworkId, RoleName};
 use quantity::Resources;
-use share_sums::SharesFault;
 use std::alloc::{AllocError, Global};
 
 /// Resources that a framework is allocated on an agent.

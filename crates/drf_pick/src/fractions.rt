@@ -1,11 +1,11 @@
 //! Dominant shares, kept beside those whose they are.
 
 ghost use Rattle.std.specs.Prelude.{◌≡◌, ◌++◌, ◌∷◌, [], take, IfOk, OnOk, OnErr};
-ghost use Rattle.share_sums.specs.Dominant.{nothing};
+ghost use Rattle.drf_shares.specs.Dominant.{nothing};
 ghost use Rattle.drf_pick.specs.Fractions.{OfHolders, OfRoles};
 
 use crate::holder::{Holder, RoleSum};
-use share_sums::{Fraction, Sum};
+use drf_shares::{Fraction, Sum};
 use std::alloc::{AllocError, Global};
 
 /// Keeps so many fractions, and appends that of a holder of nothing.

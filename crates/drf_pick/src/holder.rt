@@ -3,8 +3,8 @@
 ghost use Rattle.std.specs.Prelude.{◌≡◌};
 ghost use Rattle.drf_pick.specs.Shares.{is_holder, is_role, holder_with, role_sum_with};
 
+use drf_shares::Sum;
 use names_core::{FrameworkId, RoleName};
-use share_sums::Sum;
 
 /// A framework that may be picked, and its role.
 #[derive(Drop)]

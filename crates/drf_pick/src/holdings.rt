@@ -5,21 +5,21 @@ ghost use Rattle.std.specs.List.{find, position};
 ghost use Rattle.std.specs.Option.{option_copied};
 ghost use Rattle.quantity.specs.declared.rows.Row.{Row};
 ghost use Rattle.quantity.specs.Laws.{SameAmounts};
-ghost use Rattle.share_sums.specs.Sums.{AddUp, CanAdd, IsSum};
+ghost use Rattle.drf_shares.specs.Sums.{AddUp, CanAdd, IsSum};
 ghost use Rattle.drf_pick.specs.Least.{role_share};
-ghost use Rattle.role_weights.specs.Weights.{IsWeight};
+ghost use Rattle.names_core.specs.Weights.{IsWeight};
 ghost use Rattle.drf_pick.specs.RoleSums.{AreSums};
 ghost use Rattle.drf_pick.specs.Shown.{HoldSums};
 ghost use Rattle.drf_pick.specs.Shares.{AreUpTo, CanHold, Holder, HoldersOnce, all_held, any_role, at_first, is_behind, is_holder, is_role, given_holders, given_roles, given, holder_of, holder_with, given_to, of_role, role_given, roles_moved_of, weighed, with_totals, roles_with, with_role, holder_has, can_back, returned_holders, returned_roles, returned};
 
 use crate::holder::Holder;
 use crate::roles::Roles;
+use drf_shares::{SharesFault, Sum};
 use names_core::{FrameworkId, RoleName};
-use plain_data::Plain;
 use quantity::Resources;
-use share_sums::{SharesFault, Sum};
 use std::alloc::{AllocError, Global};
 use std::marker::Model;
+use values::Plain;
 
 /// The sum of what agents own, and the sums of what frameworks and roles hold of it.
 /// No dominant share is known while it is counted.

@@ -3,7 +3,7 @@
 ghost use Rattle.std.specs.Prelude.{◌≡◌, None, fold, IfSome, bytes_eq};
 ghost use Rattle.std.specs.List.{position};
 ghost use Rattle.std.specs.Option.{option_copied};
-ghost use Rattle.share_sums.specs.Dominant.{IsDominant};
+ghost use Rattle.drf_shares.specs.Dominant.{IsDominant};
 ghost use Rattle.drf_pick.specs.Laws.{ArePositive};
 ghost use Rattle.drf_pick.specs.Shares.{AreWeighed, is_role};
 ghost use Rattle.drf_pick.specs.Least.{IsPick, better_client, comes_before, comes_by_role, comes_within_role, held_by, holder_for};
@@ -12,8 +12,8 @@ ghost use Rattle.drf_pick.specs.ClientShares.{IsRoleShare, IsClientShare};
 use crate::client_share::{ClientShare, RoleShare};
 use crate::holder::Client;
 use crate::shares::Shares;
+use drf_shares::Fraction;
 use names_core::{FrameworkId, RoleName};
-use share_sums::Fraction;
 
 /// Whether the first framework is served rather than the second, which is of the same role.
 fn comes_within_role(

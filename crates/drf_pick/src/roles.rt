@@ -4,20 +4,20 @@ ghost use Rattle.std.specs.Prelude.{◌≡◌, ◌++◌, ◌∷◌, [], None, tr
 ghost use Rattle.std.specs.List.{find, position};
 ghost use Rattle.cluster_model.specs.Ids.{bytes_before};
 ghost use Rattle.quantity.specs.Rows.{rest_of};
-ghost use Rattle.role_weights.specs.Weights.{IsWeight};
-ghost use Rattle.share_sums.specs.Sums.{CanAdd, plus_rows};
+ghost use Rattle.names_core.specs.Weights.{IsWeight};
+ghost use Rattle.drf_shares.specs.Sums.{CanAdd, plus_rows};
 ghost use Rattle.drf_pick.specs.Least.{role_share};
 ghost use Rattle.drf_pick.specs.Shares.{AreWeighed, RolesOnce, is_role, at_first, role_given, role_holding, role_sum_with, roles_moved, roles_weighed, roles_with, role_has, role_returning, weighing, with_held};
 
 use crate::holder::RoleSum;
 use crate::ranks::{rank_at, ranks_of};
+use drf_shares::{SharesFault, Sum};
 use names_core::RoleName;
-use plain_data::Plain;
 use quantity::Resources;
-use share_sums::{SharesFault, Sum};
 use std::alloc::{AllocError, Global};
 use std::collections::BTreeMap;
 use std::marker::Model;
+use values::Plain;
 
 /// Sums of roles, none listed twice. A role is found by its name in logarithmic time.
 #[derive(Drop)]
@@ -249,7 +249,8 @@ impl Roles {
         role: &RoleName,
         less: &Sum,
     ) -> Result<Sum, AllocError>
-        ensures { IfOk result (λ rest. rest ≡ rest_of (role_share self.now role.now).held less.now) }
+        ensures { IfOk result
+            (λ rest. rest ≡ rest_of (role_share self.now role.now).held less.now) }
     {
         match self.place(guess, role) {
             Some(place) => self.sums[place].held.less_sum(alloc, less),

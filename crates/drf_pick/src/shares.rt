@@ -5,14 +5,14 @@ ghost use Rattle.std.specs.List.{find};
 ghost use Rattle.drf_pick.specs.Fractions.{OfHolders, OfOthers, OfOtherRoles, OfRoles, OfRolesBut};
 ghost use Rattle.drf_pick.specs.Shown.{HoldSums};
 ghost use Rattle.drf_pick.specs.Shares.{AreWeighed, CanHold, CanOwn, RolesOnce, is_holder, entered, given, with_totals, with_role, can_leave, departed, can_back, returned, weighed};
-ghost use Rattle.role_weights.specs.Weights.{IsWeight};
+ghost use Rattle.names_core.specs.Weights.{IsWeight};
 
 use crate::fractions::{keep_nothing, of_holders, of_roles};
 use crate::holder::RoleSum;
 use crate::holdings::Holdings;
+use drf_shares::{Fraction, SharesFault, Sum};
 use names_core::{FrameworkId, RoleName};
 use quantity::Resources;
-use share_sums::{Fraction, SharesFault, Sum};
 use std::alloc::{AllocError, Global};
 use std::marker::Model;
 

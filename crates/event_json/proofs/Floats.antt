@@ -4,9 +4,9 @@ use Rattle.serde_json.specs.Data.{Data}
 use Rattle.serde_json.specs.View.{items_of}
 use Rattle.serde_json.specs.Written.{has_float, items_have_float}
 use Rattle.quantity.specs.declared.rows.Row.{Row}
-use Rattle.scheduler_events.specs.declared.event.Event.{Event}
-use Rattle.scheduler_events.specs.declared.event.Event.TheVariants.{Subscribed, Offers, Rescind, Update, Failure, Error, Heartbeat}
-use Rattle.scheduler_events.specs.declared.offer.Offer.{Offer}
+use Rattle.messages.specs.declared.events.event.Event.{Event}
+use Rattle.messages.specs.declared.events.event.Event.TheVariants.{Subscribed, Offers, Rescind, Update, Failure, Error, Heartbeat}
+use Rattle.messages.specs.declared.events.offer.SentOffer.{SentOffer}
 use Rattle.names_core.specs.States.{state_text}
 use Rattle.names_core.specs.Updates.{update_text}
 use Rattle.event_json.specs.Offers.{row_data, offer_data}
@@ -20,7 +20,7 @@ none_of f h (x ∷ xs) = rw (h x) (none_of f h xs)
 row : (r : Row) → has_float (row_data r) ≡ false
 row r = refl
 
-offer : (o : Offer) → has_float (offer_data o) ≡ false
+offer : (o : SentOffer) → has_float (offer_data o) ≡ false
 offer o = rw (none_of row_data row o.resources) refl
 
 status : (agent : Option (List ℕ)) (state task : List ℕ) (uuid : Option (List ℕ)) → has_float (status_object agent state task uuid) ≡ false

@@ -23,9 +23,9 @@ use Rattle.event_json.specs.Bounds.{longest, IsName, IsOffer, AreOffers, IsEvent
 use Rattle.event_json.specs.Events.{event_data, event_text}
 use Rattle.event_json.specs.Offers.{row_data, offer_data}
 use Rattle.event_json.specs.Statuses.{status_object}
-use Rattle.scheduler_events.specs.declared.event.Event.{Event}
-use Rattle.scheduler_events.specs.declared.event.Event.TheVariants.{Subscribed, Offers, Rescind, Update, Failure, Error, Heartbeat}
-use Rattle.scheduler_events.specs.declared.offer.Offer.{Offer}
+use Rattle.messages.specs.declared.events.event.Event.{Event}
+use Rattle.messages.specs.declared.events.event.Event.TheVariants.{Subscribed, Offers, Rescind, Update, Failure, Error, Heartbeat}
+use Rattle.messages.specs.declared.events.offer.SentOffer.{SentOffer}
 
 -- ---- strings
 
@@ -136,7 +136,7 @@ rows_short rows h =
     let items = items_short row_data 255 IsRow row_short false rows h.each in
     omega (arith, h.few)
 
-offer_short : (o : Offer) → IsOffer o → length (compact_text (offer_data o)) ≤ 4000
+offer_short : (o : SentOffer) → IsOffer o → length (compact_text (offer_data o)) ≤ 4000
 unfolding escape_byte
 offer_short o h =
     let agent = name_short o.agent h.agent in
@@ -145,7 +145,7 @@ offer_short o h =
     let resources = rows_short o.resources h.resources in
     simp length-append (omega arith)
 
-offers_short : (os : List Offer) → AreOffers os → length (items_text false (items_of (map offer_data os))) ≤ 1024257
+offers_short : (os : List SentOffer) → AreOffers os → length (items_text false (items_of (map offer_data os))) ≤ 1024257
 offers_short os h =
     let items = items_short offer_data 4000 IsOffer offer_short false os h.each in
     omega (arith, h.few)

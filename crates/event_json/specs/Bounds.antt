@@ -4,10 +4,10 @@ use Rattle.std.specs.List.{AllByRecursion}
 use Rattle.names_core.specs.Ids.{InRange}
 use Rattle.names_core.specs.Names.{is_name}
 use Rattle.quantity.specs.Rows.{AreRows}
-use Rattle.scheduler_events.specs.declared.offer.Offer.{Offer}
-use Rattle.scheduler_events.specs.declared.status.TaskStatus.{TaskStatus}
-use Rattle.scheduler_events.specs.declared.event.Event.{Event}
-use Rattle.scheduler_events.specs.declared.event.Event.TheVariants.{Subscribed, Offers, Rescind, Update, Failure, Error, Heartbeat}
+use Rattle.messages.specs.declared.events.offer.SentOffer.{SentOffer}
+use Rattle.messages.specs.declared.events.status.TaskStatus.{TaskStatus}
+use Rattle.messages.specs.declared.events.event.Event.{Event}
+use Rattle.messages.specs.declared.events.event.Event.TheVariants.{Subscribed, Offers, Rescind, Update, Failure, Error, Heartbeat}
 
 -- no event's text has more bytes, so each fits a record of the event stream
 abbrev pub longest : ℕ
@@ -18,14 +18,14 @@ abbrev pub IsName : List ℕ → Type 0
 IsName text = is_name text ≡ true
 
 -- an offer of some agent's resources
-pub record IsOffer (o : Offer) : Type 0 where
+pub record IsOffer (o : SentOffer) : Type 0 where
   pub id : InRange o.id
   pub framework : InRange o.framework
   pub agent : IsName o.agent
   pub resources : AreRows o.resources
 
 -- the offers of one event
-pub record AreOffers (offers : List Offer) : Type 0 where
+pub record AreOffers (offers : List SentOffer) : Type 0 where
   pub few : length offers ≤ 256
   pub each : AllByRecursion IsOffer offers
 

@@ -7,10 +7,10 @@ use Rattle.names_core.specs.Ids.{Numbered}
 use Rattle.event_json.specs.Ids.{only, id_data, framework_data, offer_id_data}
 use Rattle.event_json.specs.Offers.{offer_data}
 use Rattle.event_json.specs.Statuses.{status_data}
-use Rattle.scheduler_events.specs.declared.offer.Offer.{Offer}
-use Rattle.scheduler_events.specs.declared.status.TaskStatus.{TaskStatus}
-use Rattle.scheduler_events.specs.declared.event.Event.{Event}
-use Rattle.scheduler_events.specs.declared.event.Event.TheVariants.{Subscribed, Offers, Rescind, Update, Failure, Error, Heartbeat}
+use Rattle.messages.specs.declared.events.offer.SentOffer.{SentOffer}
+use Rattle.messages.specs.declared.events.status.TaskStatus.{TaskStatus}
+use Rattle.messages.specs.declared.events.event.Event.{Event}
+use Rattle.messages.specs.declared.events.event.Event.TheVariants.{Subscribed, Offers, Rescind, Update, Failure, Error, Heartbeat}
 
 -- a type
 abbrev pub type_data : List ℕ → Data
@@ -32,7 +32,7 @@ subscribed_data framework =
     (member (codes "heartbeat_interval_seconds") (number (unsigned 15)) no_members)))
     (codes "SUBSCRIBED")
 
-abbrev pub offered_data : List Offer → Data
+abbrev pub offered_data : List SentOffer → Data
 offered_data offers =
     before_type (codes "offers") (only (codes "offers") (array (items_of (map offer_data offers))))
     (codes "OFFERS")

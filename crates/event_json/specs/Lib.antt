@@ -3,3 +3,7 @@ pub mod Events
 pub mod Ids
 pub mod Offers
 pub mod Statuses
+pub mod Texts
+pub mod Written
+pub mod Reading
+pub mod Mails

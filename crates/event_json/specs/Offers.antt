@@ -4,7 +4,7 @@ use Rattle.serde_json.specs.Data.{Data, string, number, unsigned, array, object,
 use Rattle.serde_json.specs.View.{items_of}
 use Rattle.quantity.specs.declared.rows.Row.{Row}
 use Rattle.event_json.specs.Ids.{only, id_data, framework_data, offer_id_data}
-use Rattle.scheduler_events.specs.declared.offer.Offer.{Offer}
+use Rattle.messages.specs.declared.events.offer.SentOffer.{SentOffer}
 
 -- an amount of a resource, as a scalar that is reserved for no role
 abbrev pub row_data : Row → Data
@@ -14,7 +14,7 @@ row_data row = object
     (member (codes "scalar") (only (codes "value") (number (unsigned row.amount)))
     (member (codes "type") (string (codes "SCALAR")) no_members))))
 
-abbrev pub offer_data : Offer → Data
+abbrev pub offer_data : SentOffer → Data
 offer_data offer = object
     (member (codes "agent_id") (id_data offer.agent)
     (member (codes "framework_id") (framework_data offer.framework)

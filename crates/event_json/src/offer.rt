@@ -8,8 +8,8 @@ ghost use Rattle.event_json.specs.Bounds.{IsOffer};
 ghost use Rattle.event_json.specs.Offers.{row_data, offer_data};
 
 use crate::object::{framework_value, id_value, offer_id_value};
+use messages::SentOffer;
 use quantity::Row;
-use scheduler_events::Offer;
 use serde_json::{Value, json};
 use std::alloc::{AllocError, Global};
 
@@ -36,7 +36,7 @@ fn rows_value(alloc: Global, rows: &[Row]) -> Result<Value, AllocError>
 }
 
 /// An offer. The name of its agent's host is the agent's.
-fn offer_value(alloc: Global, offer: &Offer) -> Result<Value, AllocError>
+fn offer_value(alloc: Global, offer: &SentOffer) -> Result<Value, AllocError>
     ensures value { IfOk result (λ v. view v ≡ offer_data offer.now) }
     ensures bounds { IfOk result (λ _. IsOffer offer.now) }
 {
@@ -50,7 +50,7 @@ fn offer_value(alloc: Global, offer: &Offer) -> Result<Value, AllocError>
 }
 
 /// A list of offers.
-pub fn offers_value(alloc: Global, offers: &[Offer]) -> Result<Value, AllocError>
+pub fn offers_value(alloc: Global, offers: &[SentOffer]) -> Result<Value, AllocError>
     ensures value { IfOk result (λ v. view v ≡ array (items_of (map offer_data offers.now))) }
     ensures bounds { IfOk result (λ _. AllByRecursion IsOffer offers.now) }
 {

@@ -8,8 +8,8 @@ ghost use Rattle.event_json.specs.Bounds.{IsName, IsStatus};
 ghost use Rattle.event_json.specs.Statuses.{with_agent, with_uuid, status_data};
 
 use crate::object::id_value;
+use messages::TaskStatus;
 use names_core::{AgentName, UpdateId};
-use scheduler_events::TaskStatus;
 use serde_json::{Map, Value, put};
 use std::alloc::{AllocError, Global};
 

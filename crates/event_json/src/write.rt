@@ -10,8 +10,8 @@ ghost use Rattle.event_json.specs.Events.{error_data, event_data, event_text, fa
 use crate::object::{framework_value, id_value, offer_id_value};
 use crate::offer::offers_value;
 use crate::status::status_value;
+use messages::{Event, SentOffer, TaskStatus};
 use names_core::{FrameworkId, OfferId};
-use scheduler_events::{Event, Offer, TaskStatus};
 use serde_json::{Value, json};
 use std::alloc::{AllocError, Global};
 
@@ -32,7 +32,7 @@ fn subscribed(alloc: Global, framework: &FrameworkId) -> Result<Value, AllocErro
 }
 
 /// The event of offers.
-fn offered(alloc: Global, offers: &[Offer]) -> Result<Value, AllocError>
+fn offered(alloc: Global, offers: &[SentOffer]) -> Result<Value, AllocError>
     ensures value { IfOk result (λ v. view v ≡ offered_data offers.now) }
     ensures bounds { IfOk result (λ _. AllByRecursion IsOffer offers.now) }
 {

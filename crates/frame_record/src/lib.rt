@@ -2,12 +2,16 @@
 //! as the event streams and the calls of the Mesos scheduler HTTP API are framed.
 #![tactic(auto)]
 
+mod device;
 mod fault;
 mod first;
 mod part;
 mod reader;
 mod writing;
 
+pub use device::{
+    LONGEST_LINE, LineAnswerer, LineReader, Stop, answer_lines, first_lines_stay, put, read_some,
+};
 pub use fault::FrameFault;
 pub use first::LIMIT;
 pub use part::Pulled;

@@ -1,10 +1,10 @@
 -- The events of a stream, sent one after another.
 use Rattle.std.proofs.Common.{◌≡◌, ℕ, ◌+◌, List, [], ◌∷◌, ◌++◌, length, take, None, Result, Ok, Err, sym, ap, ◌∙◌, refl, append_assoc, append-nil}
 use Rattle.names_core.specs.Ids.{Numbered}
-use Rattle.scheduler_events.specs.declared.event.Event.{Event}
+use Rattle.messages.specs.declared.events.event.Event.{Event}
 use Rattle.event_json.specs.Events.{event_text}
-use Rattle.http_text.specs.Responses.{subscribed_response, event_chunk, last_chunk}
-use Rattle.http_request.specs.declared.fault.LinkFault.{LinkFault}
+use Rattle.http_head.specs.Responses.{subscribed_response, event_chunk, last_chunk}
+use Rattle.http_head.specs.declared.request.fault.ConnectionFault.{ConnectionFault}
 use Rattle.http_door.specs.Deeds.{Deed, nexts, hangs_up, taken}
 use Rattle.http_door.specs.Exchange.{chunks, nothing, closed, failed, BreaksStream}
 use Rattle.http_door.specs.Turns.{Sends, MissesEvent, unsent, untaken, SendsEvents, Streams}
@@ -12,7 +12,7 @@ use Rattle.http_door.proofs.Sent.{then_front, front_of, all_of}
 use Rattle.http_door.proofs.Deeds.{taken_then, chunks_then}
 
 -- the stream is closed, and the last chunk is sent
-pub closes : (r : Result Unit LinkFault) (stream : Numbered) (events : List Event) (deeds : List Deed) (sent last : List ℕ)
+pub closes : (r : Result Unit ConnectionFault) (stream : Numbered) (events : List Event) (deeds : List Deed) (sent last : List ℕ)
     → deeds ≡ nexts stream (Ok None) ∷ [] → sent ≡ [] → Sends r last_chunk last
     → SendsEvents r stream (taken stream events ++ deeds) (chunks events ++ (sent ++ last))
 closes (Ok u) stream events deeds sent last deeds_are none s =
@@ -27,7 +27,7 @@ closes (Err f) stream events deeds sent last deeds_are none s = (
 )
 
 -- an event can't be taken, or not be sent whole
-pub misses : (f : LinkFault) (stream : Numbered) (events : List Event) (deeds : List Deed) (sent : List ℕ) → MissesEvent stream deeds sent
+pub misses : (f : ConnectionFault) (stream : Numbered) (events : List Event) (deeds : List Deed) (sent : List ℕ) → MissesEvent stream deeds sent
     → SendsEvents (Err f) stream (taken stream events ++ deeds) (chunks events ++ sent)
 misses f stream events deeds sent (unsent event k deeds_are sent_is) =
     let whole = events ++ event ∷ [] in
@@ -51,7 +51,7 @@ misses f stream events deeds sent (untaken e deeds_are sent_is) =
     )
 
 -- behind the response's head
-pub stream_sent : (r : Result Unit LinkFault) (stream : Numbered) (deeds : List Deed) (head sent : List ℕ) → head ≡ subscribed_response stream
+pub stream_sent : (r : Result Unit ConnectionFault) (stream : Numbered) (deeds : List Deed) (head sent : List ℕ) → head ≡ subscribed_response stream
     → SendsEvents r stream deeds sent → Streams r stream deeds (head ++ sent)
 stream_sent (Ok u) stream deeds head sent is s = (s.0, s.1, ap (λ (t : List ℕ). t ++ sent) is ∙ ap (λ (t : List ℕ). subscribed_response stream ++ t) s.2)
 stream_sent (Err f) stream deeds head sent is s = (
@@ -64,7 +64,7 @@ stream_sent (Err f) stream deeds head sent is s = (
 )
 
 -- hung up last
-pub hung_up : (f : LinkFault) (stream : Numbered) (deeds : List Deed) (sent : List ℕ) → Streams (Err f) stream deeds sent
+pub hung_up : (f : ConnectionFault) (stream : Numbered) (deeds : List Deed) (sent : List ℕ) → Streams (Err f) stream deeds sent
     → BreaksStream stream (deeds ++ hangs_up stream ∷ []) sent
 hung_up f stream deeds sent s = record {
   events = s.0;

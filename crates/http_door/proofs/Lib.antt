@@ -4,3 +4,10 @@ mod Requests
 mod Responses
 mod Sent
 mod Turns
+mod Parts
+mod Heads
+mod Chunks
+mod Bodies
+mod ExchangeRequests
+mod ExchangeResponses
+mod Exchanges

@@ -5,10 +5,10 @@ use Rattle.http_head.specs.declared.cut.Place.TheVariants.{Front, Start}
 use Rattle.http_head.specs.declared.plan.Body.{Body}
 use Rattle.http_head.specs.declared.plan.Body.TheVariants.{Sized, Chunked}
 use Rattle.http_head.specs.declared.plan.Plan.{Plan}
-use Rattle.http_request.specs.Requests.{HasHead}
-use Rattle.http_request.specs.Bodies.{HasBody, HasEnd}
-use Rattle.http_request.proofs.Parts.{part_more}
-use Rattle.http_request.proofs.Chunked.{line_more, chunks_more}
+use Rattle.http_head.specs.Requests.{HasHead}
+use Rattle.http_head.specs.Bodies.{HasBody, HasEnd}
+use Rattle.http_head.proofs.RequestParts.{part_more}
+use Rattle.http_head.proofs.Chunked.{line_more, chunks_more}
 use Rattle.http_door.specs.Deeds.{Deed}
 use Rattle.http_door.specs.Exchange.{HasRequest, Answers, Serves}
 

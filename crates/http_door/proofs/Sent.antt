@@ -2,8 +2,8 @@
 use Rattle.std.proofs.Common.{◌≡◌, ℕ, ◌+◌, ◌<◌, ◌≤◌, List, [], ◌++◌, length, take, ◌⊎◌, inl, inr, Result, Ok, Err, sym, ap, ◌∙◌, refl, arith}
 use Rattle.std.proofs.lemmas.List.{take_all, take-append-le}
 use Rattle.std.proofs.lemmas.Bool.{cases_lt}
-use Rattle.http_request.proofs.Pieces.{grown}
-use Rattle.http_request.specs.declared.fault.LinkFault.{LinkFault}
+use Rattle.http_head.proofs.Pieces.{grown}
+use Rattle.http_head.specs.declared.request.fault.ConnectionFault.{ConnectionFault}
 use Rattle.http_door.specs.Turns.{Sends}
 
 -- what was sent, and then a beginning of the rest
@@ -25,10 +25,10 @@ pub all_of : (text : List ℕ) → text ≡ take (length text) text
 all_of text = sym (take_all (length text) text (omega arith))
 
 -- what is sent behind a text that was sent whole
-pub sends_behind : {A : Type 0} (r : Result A LinkFault) (done front text sent : List ℕ) → done ≡ front → Sends r text sent → Sends r (front ++ text) (done ++ sent)
+pub sends_behind : {A : Type 0} (r : Result A ConnectionFault) (done front text sent : List ℕ) → done ≡ front → Sends r text sent → Sends r (front ++ text) (done ++ sent)
 sends_behind (Ok a) done front text sent is s = ap (λ (t : List ℕ). t ++ sent) is ∙ ap (λ (t : List ℕ). front ++ t) s
 sends_behind (Err f) done front text sent is s =
     (length front + s.0, ap (λ (t : List ℕ). t ++ sent) is ∙ ap (λ (t : List ℕ). front ++ t) s.1 ∙ then_front front text s.0)
 
-abbrev pub fails : LinkFault → Result Unit LinkFault
+abbrev pub fails : ConnectionFault → Result Unit ConnectionFault
 fails f = Err f

@@ -4,9 +4,9 @@ use Rattle.httparse.specs.Grammar.{RequestHead}
 use Rattle.http_head.specs.declared.fault.RequestFault.{RequestFault}
 use Rattle.http_head.specs.declared.plan.Plan.{Plan}
 use Rattle.http_head.specs.Heads.{head_check}
-use Rattle.http_request.specs.declared.fault.LinkFault.{LinkFault}
-use Rattle.http_request.specs.Requests.{HasHead, RefusesHead}
-use Rattle.http_request.specs.Bodies.{HasBody, RefusesBody}
+use Rattle.http_head.specs.declared.request.fault.ConnectionFault.{ConnectionFault}
+use Rattle.http_head.specs.Requests.{HasHead, RefusesHead}
+use Rattle.http_head.specs.Bodies.{HasBody, RefusesBody}
 use Rattle.http_door.specs.declared.refusal.Refusal.TheVariants as refusals
 use Rattle.http_door.specs.Deeds.{Deed, calls}
 use Rattle.http_door.specs.declared.bench.Answer.TheVariants.{Accepted}
@@ -14,7 +14,7 @@ use Rattle.http_door.specs.Exchange.{Responds, unread, spent, accepted, rejected
 use Rattle.http_door.specs.Turns.{RefusesLast, RespondsTo, RespondsToPlan, waits_body, refuses_partly, stalls_response, refuses_body, responds_last, Turns}
 
 -- a body that is there whole
-pub plan_whole : (r : Result Bool LinkFault) (plan : Plan) (input : List ℕ) (ended : Type 0) (bytes rest : List ℕ) (deeds : List Deed) (first later : List ℕ)
+pub plan_whole : (r : Result Bool ConnectionFault) (plan : Plan) (input : List ℕ) (ended : Type 0) (bytes rest : List ℕ) (deeds : List Deed) (first later : List ℕ)
     → HasBody plan.body input bytes rest → first ≡ interim plan → RespondsTo r plan bytes deeds later
     → RespondsToPlan r plan input ended deeds (first ++ later) rest
 plan_whole (Ok true) plan input ended bytes rest deeds first later has is s = (bytes, later, has, s, ap (λ (t : List ℕ). t ++ later) is)
@@ -22,7 +22,7 @@ plan_whole (Ok false) plan input ended bytes rest deeds first later has is s = r
 plan_whole (Err f) plan input ended bytes rest deeds first later has is s = stalls_response bytes rest later has s (ap (λ (t : List ℕ). t ++ later) is)
 
 -- a body that is refused
-pub plan_refused : (r : Result Bool LinkFault) (plan : Plan) (input : List ℕ) (ended : Type 0) (fault : RequestFault) (first later rest : List ℕ)
+pub plan_refused : (r : Result Bool ConnectionFault) (plan : Plan) (input : List ℕ) (ended : Type 0) (fault : RequestFault) (first later rest : List ℕ)
     → RefusesBody plan.body input ended fault → first ≡ interim plan → RefusesLast r (refusals.Request fault) later
     → RespondsToPlan r plan input ended [] (first ++ later) rest
 plan_refused (Ok true) plan input ended fault first later rest has is s = let bad : true ≡ false = s.0 in absurd cc
@@ -40,7 +40,7 @@ one_deed plan bytes deeds text (rejected call fault is on d t) = let bad : true 
 one_deed plan bytes deeds text (streamed call stream events is on d t) = let bad : true ≡ false = on in absurd cc
 
 -- a head was taken
-pub turn_planned : (r : Result Bool LinkFault) (plan : Plan) (input text : List ℕ) (h : RequestHead) (after : List ℕ) (ended : Type 0) (deeds : List Deed) (sent rest : List ℕ)
+pub turn_planned : (r : Result Bool ConnectionFault) (plan : Plan) (input text : List ℕ) (h : RequestHead) (after : List ℕ) (ended : Type 0) (deeds : List Deed) (sent rest : List ℕ)
     → HasHead input text h after → head_check h ≡ Ok plan → RespondsToPlan r plan after ended deeds sent rest → Turns r input ended deeds sent rest
 turn_planned (Ok true) plan input text h after ended deeds sent rest at checked s =
     let one = one_deed plan s.0 deeds s.1 s.3 in (
@@ -66,7 +66,7 @@ turn_planned (Err f) plan input text h after ended deeds sent rest at checked (s
     stalls plan bytes behind later (record { text = text; head = h; after = after; at = at; check = checked; body_at = has }) s t
 
 -- a head is refused
-pub turn_refused : (r : Result Bool LinkFault) (input : List ℕ) (ended : Type 0) (fault : RequestFault) (sent rest : List ℕ)
+pub turn_refused : (r : Result Bool ConnectionFault) (input : List ℕ) (ended : Type 0) (fault : RequestFault) (sent rest : List ℕ)
     → RefusesHead input ended fault → RefusesLast r (refusals.Request fault) sent → Turns r input ended [] sent rest
 turn_refused (Ok true) input ended fault sent rest has s = let bad : true ≡ false = s.0 in absurd cc
 turn_refused (Ok false) input ended fault sent rest has s = refuses_early fault [] (head has refl) refl s.1

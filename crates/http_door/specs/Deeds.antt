@@ -2,8 +2,8 @@
 use Rattle.std.specs.Prelude.{◌≡◌, ◌≤◌, List, [], ◌∷◌, length, map, Option, Some, Result, Ok}
 use Rattle.std.specs.declared.alloc.AllocError.{AllocError}
 use Rattle.names_core.specs.Ids.{Numbered}
-use Rattle.mails.specs.declared.call.Call.{Call}
-use Rattle.scheduler_events.specs.declared.event.Event.{Event}
+use Rattle.messages.specs.declared.call.Call.{Call}
+use Rattle.messages.specs.declared.events.event.Event.{Event}
 use Rattle.http_door.specs.declared.bench.Answer.{Answer}
 
 pub data Deed : Type 0 where

@@ -4,18 +4,18 @@ use Rattle.std.specs.Prelude.{◌≡◌, ℕ, Bool, true, false, not, List, [], 
 use Rattle.std.specs.declared.alloc.AllocError.{AllocError}
 use Rattle.names_core.specs.Ids.{Numbered}
 use Rattle.httparse.specs.Grammar.{RequestHead}
-use Rattle.mails.specs.declared.call.Call.{Call}
-use Rattle.call_members.specs.declared.fault.CallFault.TheVariants as faults
+use Rattle.messages.specs.declared.call.Call.{Call}
+use Rattle.call_json.specs.declared.members.fault.CallFault.TheVariants as faults
 use Rattle.call_json.specs.Calls.{read_call}
-use Rattle.scheduler_events.specs.declared.event.Event.{Event}
+use Rattle.messages.specs.declared.events.event.Event.{Event}
 use Rattle.event_json.specs.Events.{event_text}
-use Rattle.http_text.specs.Responses.{accepted_response, continue_response, subscribed_response, event_chunk, last_chunk}
+use Rattle.http_head.specs.Responses.{accepted_response, continue_response, subscribed_response, event_chunk, last_chunk}
 use Rattle.http_head.specs.declared.fault.RequestFault.{RequestFault}
 use Rattle.http_head.specs.declared.plan.Plan.{Plan}
 use Rattle.http_head.specs.Heads.{head_check}
-use Rattle.http_request.specs.Requests.{HasHead, RefusesHead, IsOver}
-use Rattle.http_request.specs.Bodies.{HasBody, RefusesBody}
-use Rattle.call_members.specs.declared.fault.Refusal as causes
+use Rattle.http_head.specs.Requests.{HasHead, RefusesHead, IsOver}
+use Rattle.http_head.specs.Bodies.{HasBody, RefusesBody}
+use Rattle.call_json.specs.declared.members.fault.Refusal as causes
 use Rattle.http_door.specs.declared.bench.Answer.TheVariants.{Accepted, Opened, Refused}
 use Rattle.http_door.specs.declared.refusal.BenchFault.{BenchFault}
 use Rattle.http_door.specs.declared.refusal.Refusal.TheVariants as refusals

@@ -3,3 +3,4 @@ pub mod Deeds
 pub mod Exchange
 pub mod Turns
 pub mod Memory
+pub mod Function

@@ -1,14 +1,14 @@
 -- How a request is answered that is refused.
 use Rattle.std.specs.Prelude.{ℕ, List, codes}
-use Rattle.mails.specs.declared.refusal.MasterRefusal.{MasterRefusal}
-use Rattle.mails.specs.declared.refusal.MasterRefusal.TheVariants as master
-use Rattle.mails.specs.Refusals.{master_refusal_text}
-use Rattle.call_members.specs.declared.fault.CallFault.{CallFault}
-use Rattle.call_members.specs.declared.fault.CallFault.TheVariants as calls
-use Rattle.call_members.specs.Texts.{fault_text}
-use Rattle.http_text.specs.declared.status.Status.{Status}
-use Rattle.http_text.specs.declared.status.Status.TheVariants.{BadRequest, Forbidden, ServiceUnavailable}
-use Rattle.http_text.specs.Responses.{refusal_response}
+use Rattle.messages.specs.declared.refusal.MasterRefusal.{MasterRefusal}
+use Rattle.messages.specs.declared.refusal.MasterRefusal.TheVariants as master
+use Rattle.messages.specs.Refusals.{master_refusal_text}
+use Rattle.call_json.specs.declared.members.fault.CallFault.{CallFault}
+use Rattle.call_json.specs.declared.members.fault.CallFault.TheVariants as calls
+use Rattle.call_json.specs.Texts.{fault_text}
+use Rattle.http_head.specs.declared.text.status.Status.{Status}
+use Rattle.http_head.specs.declared.text.status.Status.TheVariants.{BadRequest, Forbidden, ServiceUnavailable}
+use Rattle.http_head.specs.Responses.{refusal_response}
 use Rattle.http_head.specs.Faults as heads
 use Rattle.http_door.specs.declared.refusal.BenchFault.{BenchFault}
 use Rattle.http_door.specs.declared.refusal.BenchFault.TheVariants as faults

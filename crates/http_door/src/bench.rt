@@ -4,9 +4,8 @@ ghost use Rattle.std.specs.Prelude.{Option, Result, List};
 ghost use Rattle.http_door.specs.Deeds.{Deed, calls, nexts, hangs_up};
 
 use crate::refusal::BenchFault;
-use mails::Call;
+use messages::{Call, Event};
 use names_core::StreamId;
-use scheduler_events::Event;
 use std::alloc::AllocError;
 
 /// What became of a call.

@@ -2,11 +2,11 @@
 
 ghost use Rattle.std.specs.Prelude.{◌≡◌, ◌<◌, ◌⊎◌, ◌++◌, ℕ, List, [], OnOk, IsErrOf, if◌then◌else◌};
 ghost use Rattle.call_json.specs.Calls.{read_call};
-ghost use Rattle.call_members.specs.Answers.{Gives};
+ghost use Rattle.call_json.specs.Answers.{Gives};
 ghost use Rattle.http_head.specs.Heads.{IsWithinLimit};
-ghost use Rattle.http_request.specs.declared.fault.LinkFault.TheVariants.{Failed};
+ghost use Rattle.http_head.specs.declared.request.fault.ConnectionFault.TheVariants.{Failed};
 ghost use Rattle.http_door.specs.Deeds.{Deed, Chain, TurnsSpent};
-ghost use Rattle.http_text.specs.Responses.{continue_response};
+ghost use Rattle.http_head.specs.Responses.{continue_response};
 ghost use Rattle.http_door.specs.Turns.{Sends, RefusesLast, RespondsToCall, RespondsTo, RespondsToPlan, Turns, Serving};
 
 use crate::bench::{Answer, Bench};
@@ -15,12 +15,12 @@ use crate::outlet::Outlet;
 use crate::refusal::Refusal;
 use crate::send::{refuse, send};
 use crate::stream::serve_stream;
-use call_json::read_call;
-use call_members::CallFault;
-use http_head::Plan;
-use http_request::{Head, Inlet, LinkFault, Received, Section, Unread, next_head, read_body};
-use http_text::{accepted_response, continue_response};
-use mails::Call;
+use call_json::{CallFault, read_call};
+use http_head::{
+    ConnectionFault, Head, Inlet, Plan, Received, Section, Unread, accepted_response,
+    continue_response, next_head, read_body,
+};
+use messages::Call;
 use std::alloc::Global;
 
 /// Refuses, and ends the connection.
@@ -28,7 +28,7 @@ fn refuse_last<O: Outlet>(
     alloc: Global,
     outlet: &mut O,
     refusal: Refusal,
-) -> Result<bool, LinkFault>
+) -> Result<bool, ConnectionFault>
     requires { O.faults outlet.old < u64.MAX }
     ensures sent { (sent : List ℕ) × O.writes outlet.old sent outlet.new
         × RefusesLast result refusal sent }
@@ -49,7 +49,7 @@ fn answer_call<O: Outlet, B: Bench, G: Gate>(
     gate: &G,
     plan: Plan,
     call: Call,
-) -> Result<bool, LinkFault>
+) -> Result<bool, ConnectionFault>
     requires { O.faults outlet.old < u64.MAX }
     ensures answered { (deeds : List Deed) × (sent : List ℕ)
         × Chain B.does bench.old deeds bench.new × O.writes outlet.old sent outlet.new
@@ -90,7 +90,7 @@ fn answer_body<I: Inlet, O: Outlet, B: Bench, G: Gate>(
     gate: &G,
     plan: Plan,
     body: Vec<u8>,
-) -> Result<bool, LinkFault>
+) -> Result<bool, ConnectionFault>
     requires { O.faults outlet.old < u64.MAX }
     ensures answered { (deeds : List Deed) × (sent : List ℕ)
         × Chain B.does bench.old deeds bench.new × O.writes outlet.old sent outlet.new
@@ -110,7 +110,7 @@ fn answer_body<I: Inlet, O: Outlet, B: Bench, G: Gate>(
 }
 
 /// Sends the interim response, where the client waits for it.
-fn send_interim<O: Outlet>(outlet: &mut O, expects: bool) -> Result<(), LinkFault>
+fn send_interim<O: Outlet>(outlet: &mut O, expects: bool) -> Result<(), ConnectionFault>
     requires { O.faults outlet.old < u64.MAX }
     ensures sent { (sent : List ℕ) × O.writes outlet.old sent outlet.new
         × Sends result (if expects then continue_response else []) sent }
@@ -132,7 +132,7 @@ fn answer_plan<I: Inlet, O: Outlet, B: Bench, G: Gate>(
     gate: &G,
     unread: &mut Unread,
     plan: Plan,
-) -> Result<bool, LinkFault>
+) -> Result<bool, ConnectionFault>
     requires limit { IsWithinLimit plan.body }
     requires inlet_countable { I.faults inlet.old < u64.MAX }
     requires outlet_countable { O.faults outlet.old < u64.MAX }
@@ -165,7 +165,7 @@ fn turn<I: Inlet, O: Outlet, B: Bench, G: Gate>(
     bench: &mut B,
     gate: &G,
     unread: &mut Unread,
-) -> Result<bool, LinkFault>
+) -> Result<bool, ConnectionFault>
     requires inlet_countable { I.faults inlet.old < u64.MAX }
     requires outlet_countable { O.faults outlet.old < u64.MAX }
     ensures turned { (more : List ℕ) × (deeds : List Deed) × (sent : List ℕ)
@@ -194,7 +194,7 @@ pub fn serve_conn<I: Inlet, O: Outlet, B: Bench, G: Gate>(
     outlet: &mut O,
     bench: &mut B,
     gate: &G,
-) -> Result<(), LinkFault>
+) -> Result<(), ConnectionFault>
     requires inlet_countable { I.faults inlet.old < u64.MAX }
     requires outlet_countable { O.faults outlet.old < u64.MAX }
     // What was read, asked and written is an exchange, or, on an error, the beginning of one.
@@ -213,5 +213,5 @@ pub fn serve_conn<I: Inlet, O: Outlet, B: Bench, G: Gate>(
             Err(fault) => return Err(fault),
         }
     }
-    Err(LinkFault::Failed)
+    Err(ConnectionFault::Failed)
 }

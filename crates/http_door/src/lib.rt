@@ -5,6 +5,7 @@
 
 mod bench;
 mod conn;
+mod exchange;
 mod gate;
 mod memory;
 mod outlet;
@@ -14,8 +15,9 @@ mod stream;
 
 pub use bench::{Answer, Bench};
 pub use conn::serve_conn;
+pub use exchange::exchange_is_a_function;
 pub use gate::{Gate, NoGate};
-pub use http_request::{Inlet, LinkFault, Section};
+pub use http_head::{ConnectionFault, Inlet, Section};
 pub use memory::{Sink, Source};
 pub use outlet::Outlet;
 pub use refusal::{BenchFault, Refusal};

@@ -4,7 +4,7 @@ ghost use Rattle.std.specs.Prelude.{◌≡◌, ℕ, ◌+◌, ◌<◌, ◌≤◌,
 ghost use Rattle.http_door.specs.Memory.{SourceReads, SinkWrites, has_ended, source_faults, sink_faults, source_reads_nothing, source_reads_more, sink_writes_nothing, sink_writes_more};
 
 use crate::outlet::Outlet;
-use http_request::{Inlet, Section};
+use http_head::{Inlet, Section};
 
 /// Removes the first bytes.
 fn drop_front(bytes: &mut Vec<u8>, count: usize)

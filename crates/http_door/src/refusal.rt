@@ -3,10 +3,9 @@
 ghost use Rattle.std.specs.Prelude.{◌≡◌};
 ghost use Rattle.http_door.specs.Refusals.{master_status, bench_text, bench_status, refusal_text, refusal_status};
 
-use call_members::CallFault;
-use http_head::RequestFault;
-use http_text::Status;
-use mails::MasterRefusal;
+use call_json::CallFault;
+use http_head::{RequestFault, Status};
+use messages::MasterRefusal;
 
 /// Why a bench doesn't do what a call asks.
 #[derive(Clone, Copy, Debug, Drop, PartialEq, Eq)]

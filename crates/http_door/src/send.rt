@@ -2,21 +2,20 @@
 
 ghost use Rattle.std.specs.Prelude.{◌≡◌, ◌<◌, ℕ, List, [], ◌∷◌, ◌++◌, OnOk, IsErrOf};
 ghost use Rattle.event_json.specs.Events.{event_text};
-ghost use Rattle.http_text.specs.Responses.{event_chunk};
-ghost use Rattle.http_request.specs.declared.fault.LinkFault.TheVariants.{Failed};
+ghost use Rattle.http_head.specs.Responses.{event_chunk};
+ghost use Rattle.http_head.specs.declared.request.fault.ConnectionFault.TheVariants.{Failed};
 ghost use Rattle.http_door.specs.Refusals.{refused};
 ghost use Rattle.http_door.specs.Turns.{Sends};
 
 use crate::outlet::Outlet;
 use crate::refusal::Refusal;
 use event_json::write_event;
-use http_request::LinkFault;
-use http_text::{refusal_response, size_lines};
-use scheduler_events::Event;
+use http_head::{ConnectionFault, refusal_response, size_lines};
+use messages::Event;
 use std::alloc::Global;
 
 /// Writes what is left of a text, or a part of it, whole.
-fn write_whole<O: Outlet>(outlet: &mut O, text: &[u8]) -> Result<(), LinkFault>
+fn write_whole<O: Outlet>(outlet: &mut O, text: &[u8]) -> Result<(), ConnectionFault>
     requires { O.faults outlet.old < u64.MAX }
     ensures sent { (sent : List ℕ) × O.writes outlet.old sent outlet.new
         × Sends result text.now sent }
@@ -27,14 +26,14 @@ fn write_whole<O: Outlet>(outlet: &mut O, text: &[u8]) -> Result<(), LinkFault>
     while at < text.len() {
         match outlet.write(&text[at..]) {
             Some(count) => at += count,
-            None => return Err(LinkFault::Failed),
+            None => return Err(ConnectionFault::Failed),
         }
     }
     Ok(())
 }
 
 /// Sends a text.
-pub fn send<O: Outlet>(outlet: &mut O, text: &[u8]) -> Result<(), LinkFault>
+pub fn send<O: Outlet>(outlet: &mut O, text: &[u8]) -> Result<(), ConnectionFault>
     requires { O.faults outlet.old < u64.MAX }
     ensures sent { (sent : List ℕ) × O.writes outlet.old sent outlet.new
         × Sends result text.now sent }
@@ -46,7 +45,11 @@ pub fn send<O: Outlet>(outlet: &mut O, text: &[u8]) -> Result<(), LinkFault>
 }
 
 /// Writes the response to a request that is refused.
-pub fn refuse<O: Outlet>(alloc: Global, outlet: &mut O, refusal: Refusal) -> Result<(), LinkFault>
+pub fn refuse<O: Outlet>(
+    alloc: Global,
+    outlet: &mut O,
+    refusal: Refusal,
+) -> Result<(), ConnectionFault>
     requires { O.faults outlet.old < u64.MAX }
     ensures sent { (sent : List ℕ) × O.writes outlet.old sent outlet.new
         × Sends result (refused refusal) sent }
@@ -55,12 +58,12 @@ pub fn refuse<O: Outlet>(alloc: Global, outlet: &mut O, refusal: Refusal) -> Res
 {
     match refusal_response(alloc, refusal.status(), refusal.as_text()) {
         Ok(text) => send(outlet, &text),
-        Err(_) => Err(LinkFault::OutOfMemory),
+        Err(_) => Err(ConnectionFault::OutOfMemory),
     }
 }
 
 /// Writes the end of a text, and a line end.
-fn send_line<O: Outlet>(outlet: &mut O, text: &[u8]) -> Result<(), LinkFault>
+fn send_line<O: Outlet>(outlet: &mut O, text: &[u8]) -> Result<(), ConnectionFault>
     requires { O.faults outlet.old < u64.MAX }
     ensures sent { (sent : List ℕ) × O.writes outlet.old sent outlet.new
         × Sends result (text.now ++ 13 ∷ 10 ∷ []) sent }
@@ -79,7 +82,7 @@ fn send_parts<O: Outlet>(
     chunk_line: &[u8],
     record_line: &[u8],
     text: &[u8],
-) -> Result<(), LinkFault>
+) -> Result<(), ConnectionFault>
     requires { O.faults outlet.old < u64.MAX }
     ensures sent { (sent : List ℕ) × O.writes outlet.old sent outlet.new
         × Sends result (chunk_line.now ++ (record_line.now ++ (text.now ++ 13 ∷ 10 ∷ []))) sent }
@@ -98,7 +101,7 @@ fn send_parts<O: Outlet>(
 }
 
 /// Writes the chunk of an event with this text, which isn't copied, as one text.
-fn send_chunk<O: Outlet>(alloc: Global, outlet: &mut O, text: &[u8]) -> Result<(), LinkFault>
+fn send_chunk<O: Outlet>(alloc: Global, outlet: &mut O, text: &[u8]) -> Result<(), ConnectionFault>
     requires { O.faults outlet.old < u64.MAX }
     ensures sent { (sent : List ℕ) × O.writes outlet.old sent outlet.new
         × Sends result (event_chunk text.now) sent }
@@ -115,12 +118,16 @@ fn send_chunk<O: Outlet>(alloc: Global, outlet: &mut O, text: &[u8]) -> Result<(
                 text,
             )
         }
-        Err(_) => Err(LinkFault::OutOfMemory),
+        Err(_) => Err(ConnectionFault::OutOfMemory),
     }
 }
 
 /// Writes the chunk of an event.
-pub fn send_event<O: Outlet>(alloc: Global, outlet: &mut O, event: &Event) -> Result<(), LinkFault>
+pub fn send_event<O: Outlet>(
+    alloc: Global,
+    outlet: &mut O,
+    event: &Event,
+) -> Result<(), ConnectionFault>
     requires { O.faults outlet.old < u64.MAX }
     ensures sent { (sent : List ℕ) × O.writes outlet.old sent outlet.new
         × Sends result (event_chunk (event_text event.now)) sent }
@@ -129,6 +136,6 @@ pub fn send_event<O: Outlet>(alloc: Global, outlet: &mut O, event: &Event) -> Re
 {
     match write_event(alloc, event) {
         Ok(text) => send_chunk(alloc, outlet, &text),
-        Err(_) => Err(LinkFault::OutOfMemory),
+        Err(_) => Err(ConnectionFault::OutOfMemory),
     }
 }

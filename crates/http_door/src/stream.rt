@@ -1,15 +1,14 @@
 //! The event stream of a SUBSCRIBE.
 
 ghost use Rattle.std.specs.Prelude.{◌≡◌, ◌<◌, ◌⊎◌, ℕ, List, OnOk, IsErrOf};
-ghost use Rattle.http_request.specs.declared.fault.LinkFault.TheVariants.{Failed};
+ghost use Rattle.http_head.specs.declared.request.fault.ConnectionFault.TheVariants.{Failed};
 ghost use Rattle.http_door.specs.Deeds.{Deed, Chain, TurnsSpent};
 ghost use Rattle.http_door.specs.Turns.{TakesEvent, SendsEvents, Streams, ServesStream};
 
 use crate::bench::Bench;
 use crate::outlet::Outlet;
 use crate::send::{send, send_event};
-use http_request::LinkFault;
-use http_text::{last_chunk, subscribed_response};
+use http_head::{ConnectionFault, last_chunk, subscribed_response};
 use names_core::StreamId;
 use std::alloc::Global;
 
@@ -19,7 +18,7 @@ fn send_next<O: Outlet, B: Bench>(
     outlet: &mut O,
     bench: &mut B,
     stream: StreamId,
-) -> Result<bool, LinkFault>
+) -> Result<bool, ConnectionFault>
     requires { O.faults outlet.old < u64.MAX }
     ensures sent { (deeds : List Deed) × (sent : List ℕ) × Chain B.does bench.old deeds bench.new
         × O.writes outlet.old sent outlet.new × TakesEvent result stream deeds sent }
@@ -32,7 +31,7 @@ fn send_next<O: Outlet, B: Bench>(
             Err(fault) => Err(fault),
         },
         Ok(None) => Ok(false),
-        Err(_) => Err(LinkFault::OutOfMemory),
+        Err(_) => Err(ConnectionFault::OutOfMemory),
     }
 }
 
@@ -42,7 +41,7 @@ fn send_events<O: Outlet, B: Bench>(
     outlet: &mut O,
     bench: &mut B,
     stream: StreamId,
-) -> Result<(), LinkFault>
+) -> Result<(), ConnectionFault>
     requires { O.faults outlet.old < u64.MAX }
     ensures sent { (deeds : List Deed) × (sent : List ℕ) × Chain B.does bench.old deeds bench.new
         × O.writes outlet.old sent outlet.new × SendsEvents result stream deeds sent }
@@ -57,7 +56,7 @@ fn send_events<O: Outlet, B: Bench>(
             Err(fault) => return Err(fault),
         }
     }
-    Err(LinkFault::Failed)
+    Err(ConnectionFault::Failed)
 }
 
 /// Sends the response to a SUBSCRIBE that opened this stream.
@@ -66,7 +65,7 @@ fn send_stream<O: Outlet, B: Bench>(
     outlet: &mut O,
     bench: &mut B,
     stream: StreamId,
-) -> Result<(), LinkFault>
+) -> Result<(), ConnectionFault>
     requires { O.faults outlet.old < u64.MAX }
     ensures sent { (deeds : List Deed) × (sent : List ℕ) × Chain B.does bench.old deeds bench.new
         × O.writes outlet.old sent outlet.new × Streams result stream deeds sent }
@@ -76,7 +75,7 @@ fn send_stream<O: Outlet, B: Bench>(
 {
     let head = match subscribed_response(alloc, stream) {
         Ok(head) => head,
-        Err(_) => return Err(LinkFault::OutOfMemory),
+        Err(_) => return Err(ConnectionFault::OutOfMemory),
     };
     match send(outlet, &head) {
         Ok(()) => send_events(alloc, outlet, bench, stream),
@@ -90,7 +89,7 @@ pub fn serve_stream<O: Outlet, B: Bench>(
     outlet: &mut O,
     bench: &mut B,
     stream: StreamId,
-) -> Result<(), LinkFault>
+) -> Result<(), ConnectionFault>
     requires { O.faults outlet.old < u64.MAX }
     ensures sent { (deeds : List Deed) × (sent : List ℕ) × Chain B.does bench.old deeds bench.new
         × O.writes outlet.old sent outlet.new × ServesStream result stream deeds sent }

@@ -1,12 +1,12 @@
 -- How the length of a part goes on from byte to byte, and what more input changes of it.
-use Rattle.std.proofs.Common.{◌≡◌, ℕ, zero, suc, ◌+◌, ◌<◌, ◌≤◌, Bool, true, false, cond, List, [], ◌∷◌, ◌++◌, length, take, drop, get_or, Option, Some, None, sym, refl, ap, ◌∙◌, arith}
+use Rattle.std.proofs.Common.{◌≡◌, ℕ, ◌+◌, ◌<◌, ◌≤◌, Bool, true, false, cond, List, [], ◌∷◌, ◌++◌, length, take, drop, get_or, Some, None, sym, refl, ap, ◌∙◌, arith}
 use Rattle.std.proofs.lemmas.List.{drop_more, drop_all, take_more, take-append-drop, take-append-le, length-take, length-append}
 use Rattle.std.proofs.lemmas.Bool.{cond-true, cond-false}
 use Rattle.http_head.specs.declared.cut.Place.{Place}
 use Rattle.http_head.specs.declared.cut.Scan.{Scan}
-use Rattle.http_head.specs.Cuts.{max_part, is_last, place_after, place_behind, cut_after, cut_len, IsCut, HasSeen}
+use Rattle.http_head.specs.Cuts.{is_last, place_after, place_behind, cut_after, cut_len, HasSeen}
 
-after_none : (n : ℕ) (p : Place) → cut_after n p [] ≡ None
+pub after_none : (n : ℕ) (p : Place) → cut_after n p [] ≡ None
 unfolding cut_after
 after_none n p = refl
 
@@ -14,10 +14,10 @@ after_one : (n : ℕ) (p : Place) (b : ℕ) (bs : List ℕ) → cut_after n p (b
 unfolding cut_after
 after_one n p b bs = refl
 
-one_hit : (n : ℕ) (p : Place) (b : ℕ) (bs : List ℕ) → is_last p b ≡ true → cut_after n p (b ∷ bs) ≡ Some (n + 1)
+pub one_hit : (n : ℕ) (p : Place) (b : ℕ) (bs : List ℕ) → is_last p b ≡ true → cut_after n p (b ∷ bs) ≡ Some (n + 1)
 one_hit n p b bs is = after_one n p b bs ∙ cond-true _ _ _ is
 
-one_miss : (n : ℕ) (p : Place) (b : ℕ) (bs : List ℕ) → is_last p b ≡ false → cut_after n p (b ∷ bs) ≡ cut_after (n + 1) (place_after p b) bs
+pub one_miss : (n : ℕ) (p : Place) (b : ℕ) (bs : List ℕ) → is_last p b ≡ false → cut_after n p (b ∷ bs) ≡ cut_after (n + 1) (place_after p b) bs
 one_miss n p b bs is = after_one n p b bs ∙ cond-false _ _ _ is
 
 -- the byte at i, where the bytes from i on are looked at
@@ -33,7 +33,7 @@ pub after_end : (n : ℕ) (p : Place) (xs : List ℕ) (i : ℕ) → length xs �
 after_end n p xs i over = ap (cut_after n p) (drop_all i xs over) ∙ after_none n p
 
 -- the head ends behind at least one byte, and within the text
-after_bounds : (n : ℕ) (p : Place) (xs : List ℕ) (k : ℕ) → cut_after n p xs ≡ Some k → (n < k) × (k ≤ n + length xs)
+pub after_bounds : (n : ℕ) (p : Place) (xs : List ℕ) (k : ℕ) → cut_after n p xs ≡ Some k → (n < k) × (k ≤ n + length xs)
 after_bounds n p [] k is = let bad : None ≡ Some k = sym (after_none n p) ∙ is in absurd cc
 after_bounds n p (b ∷ bs) k is = by_test (is_last p b) refl (after_bounds (n + 1) (place_after p b) bs k)
   where
@@ -43,69 +43,16 @@ after_bounds n p (b ∷ bs) k is = by_test (is_last p b) refl (after_bounds (n +
         let later = rec (sym (one_miss n p b bs miss) ∙ is) in
         (omega arith, omega arith)
 
--- more bytes behind a head change nothing of it
-after_append : (n : ℕ) (p : Place) (xs ys : List ℕ) (k : ℕ) → cut_after n p xs ≡ Some k → cut_after n p (xs ++ ys) ≡ Some k
-after_append n p [] ys k is = let bad : None ≡ Some k = sym (after_none n p) ∙ is in absurd cc
-after_append n p (b ∷ bs) ys k is = by_test (is_last p b) refl (after_append (n + 1) (place_after p b) bs ys k)
-  where
-    by_test : (t : Bool) → is_last p b ≡ t → (cut_after (n + 1) (place_after p b) bs ≡ Some k → cut_after (n + 1) (place_after p b) (bs ++ ys) ≡ Some k) → cut_after n p (b ∷ (bs ++ ys)) ≡ Some k
-    by_test true hit rec = one_hit n p b (bs ++ ys) hit ∙ sym (one_hit n p b bs hit) ∙ is
-    by_test false miss rec = one_miss n p b (bs ++ ys) miss ∙ rec (sym (one_miss n p b bs miss) ∙ is)
-
--- the bytes of the head alone show it
-after_take : (n m : ℕ) (p : Place) (xs : List ℕ) (k : ℕ) → k ≡ n + m → cut_after n p xs ≡ Some k → cut_after n p (take m xs) ≡ Some k
-after_take n m p [] k at is = let bad : None ≡ Some k = sym (after_none n p) ∙ is in absurd cc
-after_take n zero p (b ∷ bs) k at is = let bounds = after_bounds n p (b ∷ bs) k is in absurd (omega arith)
-after_take n (suc m) p (b ∷ bs) k at is = by_test (is_last p b) refl (after_take (n + 1) m (place_after p b) bs k (omega arith))
-  where
-    by_test : (t : Bool) → is_last p b ≡ t → (cut_after (n + 1) (place_after p b) bs ≡ Some k → cut_after (n + 1) (place_after p b) (take m bs) ≡ Some k) → cut_after n p (b ∷ take m bs) ≡ Some k
-    by_test true hit rec = one_hit n p b (take m bs) hit ∙ sym (one_hit n p b bs hit) ∙ is
-    by_test false miss rec = one_miss n p b (take m bs) miss ∙ rec (sym (one_miss n p b bs miss) ∙ is)
-
 pub cut_bounds : (p : Place) (xs : List ℕ) (k : ℕ) → cut_len p xs ≡ Some k → (0 < k) × (k ≤ length xs)
 cut_bounds p xs k is = let b = after_bounds 0 p xs k is in (b.0, omega arith)
 
-pub cut_append : (p : Place) (xs ys : List ℕ) (k : ℕ) → cut_len p xs ≡ Some k → cut_len p (xs ++ ys) ≡ Some k
-cut_append p xs ys k is = after_append 0 p xs ys k is
-
-pub cut_take : (p : Place) (xs : List ℕ) (k : ℕ) → cut_len p xs ≡ Some k → cut_len p (take k xs) ≡ Some k
-cut_take p xs k is = after_take 0 k p xs k (omega arith) is
-
--- where the part needs more bytes than m, or none ends it, the first m bytes don't end it
-pub none_within : (p : Place) (xs : List ℕ) (m : ℕ) → ((k : ℕ) → cut_len p xs ≡ Some k → m < k) → cut_len p (take m xs) ≡ None
-none_within p xs m over = by_case (cut_len p (take m xs)) refl
-  where
-    by_case : (o : Option ℕ) → cut_len p (take m xs) ≡ o → cut_len p (take m xs) ≡ None
-    by_case None is = is
-    by_case (Some k) is =
-        let whole = rw take-append-drop at (cut_append p (take m xs) (drop m xs) k is) in
-        let bounds = cut_bounds p (take m xs) k is in
-        absurd (omega (arith, over k whole, length-take m xs))
-
-pub none_of_none : (p : Place) (xs : List ℕ) (m : ℕ) → cut_len p xs ≡ None → cut_len p (take m xs) ≡ None
-none_of_none p xs m is = none_within p xs m (λ k some. let bad : None ≡ Some k = sym is ∙ some in absurd cc)
-
-pub none_of_longer : (p : Place) (xs : List ℕ) (m n : ℕ) → cut_len p xs ≡ Some n → m < n → cut_len p (take m xs) ≡ None
-none_of_longer p xs m n is over = none_within p xs m (λ k some. let same : Some n ≡ Some k = sym is ∙ some in let eq : n ≡ k = cc in omega arith)
-
--- the first bytes, up to where the part ends, are a part that was cut
-pub is_cut : (p : Place) (xs : List ℕ) (n : ℕ) → cut_len p xs ≡ Some n → n ≤ max_part → IsCut p (take n xs)
-is_cut p xs n is fits =
-    let bounds = cut_bounds p xs n is in
-    let len : length (take n xs) ≡ n = omega (arith, length-take n xs) in
-    record { whole = cut_take p xs n is ∙ ap Some (sym len); fits = omega arith }
-
--- the part is the one that the text begins with
-pub cut_at : (p : Place) (text rest : List ℕ) → IsCut p text → cut_len p (text ++ rest) ≡ Some (length text)
-cut_at p text rest cut = cut_append p text rest (length text) cut.whole
-
 -- ---- a text in two pieces
 
-behind_one : (p : Place) (b : ℕ) (bs : List ℕ) → place_behind p (b ∷ bs) ≡ place_behind (place_after p b) bs
+pub behind_one : (p : Place) (b : ℕ) (bs : List ℕ) → place_behind p (b ∷ bs) ≡ place_behind (place_after p b) bs
 unfolding place_behind
 behind_one p b bs = refl
 
-behind_none : (p : Place) → place_behind p [] ≡ p
+pub behind_none : (p : Place) → place_behind p [] ≡ p
 unfolding place_behind
 behind_none p = refl
 

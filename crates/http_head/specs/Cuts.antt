@@ -1,14 +1,8 @@
--- Where a part of a request ends: a head, a chunk's line, trailers. A line ends with a line feed,
--- with or without a CR before it.
+-- How the end of a part of a request is found, byte by byte.
 use Rattle.std.specs.Prelude.{◌≡◌, ℕ, ◌+◌, ◌≤◌, Bool, false, List, [], ◌∷◌, length, take, Option, Some, None, if◌then◌else◌, ◌==◌}
 use Rattle.http_head.specs.declared.cut.Place.{Place}
 use Rattle.http_head.specs.declared.cut.Place.TheVariants.{Front, FrontCr, Inside, Start, StartCr, Line}
 use Rattle.http_head.specs.declared.cut.Scan.{Scan}
-
--- a head, a chunk's line and trailers have at most so many bytes each,
--- line ends and empty lines counted
-abbrev pub max_part : ℕ
-max_part = 16384
 
 -- the byte ends the part: it is the line feed of an empty line after a line, or of the one line
 abbrev pub is_last : Place → ℕ → Bool
@@ -39,20 +33,9 @@ cut_after n place [] = None
 cut_after n place (b ∷ bs) =
     if is_last place b then Some (n + 1) else cut_after (n + 1) (place_after place b) bs
 
--- how many bytes the part has that begins at this place: from `Front` a head, which is empty lines,
--- lines and an empty line; from `Start` trailers, which are lines and an empty line; from `Line`
--- one line
+-- how many bytes of a text lead to the end of the part that begins at this place
 abbrev pub cut_len : Place → List ℕ → Option ℕ
 cut_len place bytes = cut_after 0 place bytes
-
--- the text is one part that was cut
-pub record IsCut (place : Place) (text : List ℕ) : Type 0 where
-  pub whole : cut_len place text ≡ Some (length text)
-  pub fits : length text ≤ max_part
-
--- the text is nothing, or whole empty lines
-abbrev pub IsBlank : List ℕ → Type 0
-IsBlank text = place_behind Front text ≡ Front
 
 -- so many bytes of a text were searched, and the part doesn't end in them
 pub record HasSeen (scan : Scan) (bytes : List ℕ) : Type 0 where

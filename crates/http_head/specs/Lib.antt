@@ -1,5 +1,10 @@
 pub mod Cuts
 pub mod Heads
 pub mod Lines
+pub mod Parts
 pub mod Spans
 pub mod Faults
+pub mod Responses
+pub mod Requests
+pub mod Bodies
+pub mod Found

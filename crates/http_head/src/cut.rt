@@ -1,7 +1,8 @@
 //! Where a part of a request ends.
 
-ghost use Rattle.std.specs.Prelude.{◌≡◌, None, length};
-ghost use Rattle.http_head.specs.Cuts.{is_last, place_after, cut_len, HasSeen};
+ghost use Rattle.std.specs.Prelude.{◌≡◌, ◌≤◌, None, IfSome, length, take};
+ghost use Rattle.http_head.specs.Cuts.{is_last, place_after, HasSeen};
+ghost use Rattle.http_head.specs.Parts.{IsPart, LacksPart};
 
 /// The most bytes of a head, of a chunk's line and of trailers,
 /// with their line ends and empty lines.
@@ -76,7 +77,9 @@ impl Scan {
     /// Only bytes that weren't examined before are examined.
     pub fn look(&mut self, bytes: &[u8]) -> Option<usize>
         requires { HasSeen self.old bytes.now }
-        ensures cut { result ≡ cut_len self.old.start bytes.now }
+        ensures part { IfSome result (λ n. IsPart self.old.start (take n bytes.now)) }
+        ensures within { IfSome result (λ n. n ≤ length bytes.now) }
+        ensures none { result ≡ None → LacksPart self.old.start bytes.now }
         ensures start { self.new.start ≡ self.old.start }
         ensures seen { result ≡ None → HasSeen self.new bytes.now }
         ensures all { result ≡ None → self.new.seen ≡ length bytes.now }

@@ -3,7 +3,7 @@
 ghost use Rattle.std.specs.Prelude.{◌≡◌};
 ghost use Rattle.http_head.specs.Faults.{fault_text, fault_status};
 
-use http_text::Status;
+use crate::text::Status;
 use std::error::Error;
 use std::fmt;
 

@@ -5,9 +5,9 @@ use Rattle.sqlite.specs.Schema.{Schema}
 use Rattle.sqlite.specs.Effect.{Database}
 use Rattle.sqlite.specs.State.{State, HasCleanDisk, Survives}
 use Rattle.sqlite.proofs.StateLemmas.{survives_then}
-use Rattle.keep_rows.specs.Tables.{AddsFirst, AddsTables, AddsTotals, AreLone, HasKnownTables, IsKnown, IsLone, IsOurs, first_schema, second_schema, keeper_schema, no_schema}
-use Rattle.keep_rows.proofs.MakeLemmas.{first_is_not_new, first_is_not_ours, ours_is_not_new, second_is_not_new, second_is_not_first, second_is_not_ours}
-use Rattle.record_saves.specs.Kept.{Kept, kept_in}
+use Rattle.keep_tables.specs.Tables.{AddsFirst, AddsTables, AddsTotals, AreLone, HasKnownTables, IsKnown, IsLone, IsOurs, first_schema, second_schema, keeper_schema, no_schema}
+use Rattle.keep_tables.proofs.MakeLemmas.{first_is_not_new, first_is_not_ours, ours_is_not_new, second_is_not_new, second_is_not_first, second_is_not_ours}
+use Rattle.keep_store.specs.SavesKept.{Kept, kept_in}
 use Rattle.keep_store.specs.Kept.{Completes, Keeps, LacksNone, LeavesIf, MakesIf, StillKeeps, first_kept, nothing, second_kept}
 use Rattle.keep_store.proofs.MoveLemmas.{all_fresh, first_fresh, first_moved, first_seconded, second_moved}
 

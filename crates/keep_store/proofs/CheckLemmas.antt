@@ -4,8 +4,8 @@ use Rattle.sqlite.specs.Order.{Row}
 use Rattle.sqlite.specs.Effect.{Database}
 use Rattle.sqlite.specs.State.{State, HasCleanDisk, Survives}
 use Rattle.sqlite.proofs.StateLemmas.{survives_then, survives_weaker}
-use Rattle.keep_rows.specs.Tables.{AreIds, IsLone, keeper_schema}
-use Rattle.keep_rows.proofs.ReadLemmas.{lone_ids}
+use Rattle.keep_tables.specs.Tables.{AreIds, IsLone, keeper_schema}
+use Rattle.keep_tables.proofs.ReadLemmas.{lone_ids}
 
 -- ---- three queries of ids, one behind another
 

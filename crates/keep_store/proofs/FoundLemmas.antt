@@ -12,15 +12,15 @@ use Rattle.sqlite.specs.Tree.{Trees}
 use Rattle.sqlite_rules.specs.Lists.{Has}
 use Rattle.sqlite_rules.proofs.ListLemmas.{all_has}
 use Rattle.sqlite_rules.proofs.ProbeLemmas.{has_mapped, mapped_has}
-use Rattle.mails.specs.declared.record.RecordedTask.{RecordedTask}
+use Rattle.messages.specs.declared.record.RecordedTask.{RecordedTask}
 use Rattle.agent_core.specs.Records.{keys_rise}
-use Rattle.record_text.specs.Reading.{◌>>=◌, where_true, task_in}
-use Rattle.record_saves.specs.Kept.{ArePut, AreSeen, IsPut, Knows, AreRowsOf, IsRowOf, read_back}
+use Rattle.event_json.specs.Reading.{◌>>=◌, where_true, task_in}
+use Rattle.keep_store.specs.SavesKept.{ArePut, AreSeen, IsPut, Knows, AreRowsOf, IsRowOf, read_back}
 use Rattle.keep_store.specs.Kept.{AreTasksOf, IsPlaced}
-use Rattle.keep_rows.specs.Columns.{number_at, text_at}
-use Rattle.keep_rows.specs.Tables.{task_shown}
-use Rattle.keep_rows.proofs.QueryLemmas.{has_permuted}
-use Rattle.record_saves.proofs.RiseLemmas.{put_are_tasks, rises}
+use Rattle.keep_tables.specs.Columns.{number_at, text_at}
+use Rattle.keep_tables.specs.Tables.{task_shown}
+use Rattle.keep_tables.proofs.QueryLemmas.{has_permuted}
+use Rattle.keep_store.proofs.RiseLemmas.{put_are_tasks, rises}
 use Rattle.keep_store.proofs.LoadLemmas.{row_of_task, same_told, task_of_row}
 
 -- ---- what a row that tells a task has

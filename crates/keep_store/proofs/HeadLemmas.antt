@@ -4,17 +4,17 @@ use Rattle.std.specs.List.Sorted.{IsPermutation}
 use Rattle.std.proofs.lemmas.List.Sorted.{length_permutation}
 use Rattle.sqlite.specs.Order.{Row, column}
 use Rattle.quantity.specs.declared.rows.Row.{Row as Amount}
-use Rattle.mails.specs.declared.record.Durable.{Durable}
-use Rattle.keep_rows.specs.Totals.{total_in_rows}
-use Rattle.record_saves.specs.Kept.{head_in_row, own_in_row, total_by, with_total}
-use Rattle.keep_rows.specs.Columns.{number_at}
+use Rattle.messages.specs.declared.record.RecordParts.{RecordParts}
+use Rattle.keep_tables.specs.Totals.{total_in_rows}
+use Rattle.keep_store.specs.SavesKept.{head_in_row, own_in_row, total_by, with_total}
+use Rattle.keep_tables.specs.Columns.{number_at}
 
-told_from : (head : Row) (held : List Row) (d : Durable) (version : ℕ) (total : List Amount) → own_in_row head ≡ Some d → number_at (column head 4) ≡ Some version → total_by version d.total held ≡ Some total
+told_from : (head : Row) (held : List Row) (d : RecordParts) (version : ℕ) (total : List Amount) → own_in_row head ≡ Some d → number_at (column head 4) ≡ Some version → total_by version d.total held ≡ Some total
     → head_in_row head held ≡ Some (with_total total d)
 unfolding head_in_row
 told_from head held d version total own is by_version = rw (own, is, by_version) refl
 
-pub head_from : (head : Row) (held : List Row) (d : Durable) (version : ℕ) (total : List Amount) → own_in_row head ≡ Some d → number_at (column head 4) ≡ Some version → total_by version d.total held ≡ Some total
+pub head_from : (head : Row) (held : List Row) (d : RecordParts) (version : ℕ) (total : List Amount) → own_in_row head ≡ Some d → number_at (column head 4) ≡ Some version → total_by version d.total held ≡ Some total
     → head_in_row head held ≡ Some (with_total total d)
 head_from = told_from
 
@@ -22,11 +22,11 @@ pub no_own : (head : Row) (held : List Row) → own_in_row head ≡ None → hea
 unfolding head_in_row
 no_own head held none = rw none refl
 
-pub no_version : (head : Row) (held : List Row) (d : Durable) → own_in_row head ≡ Some d → number_at (column head 4) ≡ None → head_in_row head held ≡ None
+pub no_version : (head : Row) (held : List Row) (d : RecordParts) → own_in_row head ≡ Some d → number_at (column head 4) ≡ None → head_in_row head held ≡ None
 unfolding head_in_row
 no_version head held d own none = rw (own, none) refl
 
-pub no_total : (head : Row) (held : List Row) (d : Durable) (version : ℕ) → own_in_row head ≡ Some d → number_at (column head 4) ≡ Some version → total_by version d.total held ≡ None → head_in_row head held ≡ None
+pub no_total : (head : Row) (held : List Row) (d : RecordParts) (version : ℕ) → own_in_row head ≡ Some d → number_at (column head 4) ≡ Some version → total_by version d.total held ≡ None → head_in_row head held ≡ None
 unfolding head_in_row
 no_total head held d version own is none = rw (own, is, none) refl
 

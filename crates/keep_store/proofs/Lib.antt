@@ -7,3 +7,11 @@ pub mod KnownLemmas
 pub mod RunLemmas
 pub mod AddLemmas
 pub mod CheckLemmas
+pub mod TaskLemmas
+pub mod ToldLemmas
+pub mod RiseLemmas
+pub mod SaveLemmas
+pub mod SeenLemmas
+pub mod SavesHeadLemmas
+pub mod SavesRunLemmas
+pub mod StepLemmas

@@ -12,24 +12,24 @@ use Rattle.sqlite.specs.Tree.{Trees}
 use Rattle.sqlite_rules.specs.Lists.{Has}
 use Rattle.sqlite_rules.proofs.ListLemmas.{has_at}
 use Rattle.sqlite_rules.proofs.ProbeLemmas.{has_mapped, mapped_has}
-use Rattle.mails.specs.declared.record.Durable.{Durable}
-use Rattle.mails.specs.declared.record.RecordedTask.{RecordedTask}
+use Rattle.messages.specs.declared.record.RecordParts.{RecordParts}
+use Rattle.messages.specs.declared.record.RecordedTask.{RecordedTask}
 use Rattle.agent_core.specs.Records.{is_record, keys_rise}
-use Rattle.record_text.specs.Texts.{record_form}
-use Rattle.record_text.specs.Written.{IsTask, IsDurable, IsWritten}
-use Rattle.record_text.specs.Reading.{◌>>=◌}
-use Rattle.record_text.proofs.Again.{one_record, one_written}
-use Rattle.record_saves.specs.Kept.{IsPut, Rise, AreRowsOf, body_in, head_in_row, kept_in, read_back, tasks_in, text_of, with_tasks}
+use Rattle.event_json.specs.Texts.{record_form}
+use Rattle.event_json.specs.Written.{IsTask, IsDurable, IsWritten}
+use Rattle.event_json.specs.Reading.{◌>>=◌}
+use Rattle.event_json.proofs.Again.{one_record, one_written}
+use Rattle.keep_store.specs.SavesKept.{IsPut, Rise, AreRowsOf, body_in, head_in_row, kept_in, read_back, tasks_in, text_of, with_tasks}
 use Rattle.keep_store.specs.Kept.{AreTasksOf, SomeUnreadable, IsDamaged, HoldsText, shown_body}
-use Rattle.keep_rows.specs.Columns.{Gives}
-use Rattle.keep_rows.specs.Tables.{Shows, amount_shown, head_of, task_shown}
-use Rattle.keep_rows.specs.declared.fault.KeepFault.{KeepFault}
-use Rattle.keep_rows.specs.declared.fault.KeepFault.TheVariants as fault
-use Rattle.keep_rows.proofs.QueryLemmas.{has_permuted}
+use Rattle.keep_tables.specs.Columns.{Gives}
+use Rattle.keep_tables.specs.Tables.{Shows, amount_shown, head_of, task_shown}
+use Rattle.keep_tables.specs.declared.rows.fault.KeepFault.{KeepFault}
+use Rattle.keep_tables.specs.declared.rows.fault.KeepFault.TheVariants as fault
+use Rattle.keep_tables.proofs.QueryLemmas.{has_permuted}
 use Rattle.keep_store.proofs.MoveLemmas.{no_amount_shown}
-use Rattle.record_saves.proofs.TaskLemmas.{tells_all}
-use Rattle.record_saves.proofs.HeadLemmas.{with_head}
-use Rattle.record_saves.proofs.RiseLemmas.{rises}
+use Rattle.keep_store.proofs.TaskLemmas.{tells_all}
+use Rattle.keep_store.proofs.SavesHeadLemmas.{with_head}
+use Rattle.keep_store.proofs.RiseLemmas.{rises}
 
 -- ---- the loop over the rows
 
@@ -68,12 +68,12 @@ same_told row = refl
 
 absent : (rows : List Row) (r : Row) → Has rows r → read_back r ≡ None → tasks_in rows ≡ None
 absent [] r at none = absurd at
-absent (x ∷ rows) r (inl same) none = ap (λ (o : Option RecordedTask). o >>= λ task. tasks_in rows >>= λ tasks. Some (Rattle.record_saves.specs.Kept.put_task task tasks)) (ap read_back (sym same) ∙ none)
+absent (x ∷ rows) r (inl same) none = ap (λ (o : Option RecordedTask). o >>= λ task. tasks_in rows >>= λ tasks. Some (Rattle.keep_store.specs.SavesKept.put_task task tasks)) (ap read_back (sym same) ∙ none)
 absent (x ∷ rows) r (inr at) none = go (read_back x) (absent rows r at none)
   where
-    go : (o : Option RecordedTask) → tasks_in rows ≡ None → (o >>= λ task. tasks_in rows >>= λ tasks. Some (Rattle.record_saves.specs.Kept.put_task task tasks)) ≡ None
+    go : (o : Option RecordedTask) → tasks_in rows ≡ None → (o >>= λ task. tasks_in rows >>= λ tasks. Some (Rattle.keep_store.specs.SavesKept.put_task task tasks)) ≡ None
     go None later = refl
-    go (Some task) later = ap (λ (o : Option (List RecordedTask)). o >>= λ tasks. Some (Rattle.record_saves.specs.Kept.put_task task tasks)) later
+    go (Some task) later = ap (λ (o : Option (List RecordedTask)). o >>= λ tasks. Some (Rattle.keep_store.specs.SavesKept.put_task task tasks)) later
 
 pub row_of_task : (rows : List Row) (ts : List RecordedTask) (t : RecordedTask) → AreTasksOf rows ts → Has ts t → (r : Row) × Has rows r × (read_back r ≡ Some t)
 row_of_task [] [] t h at = absurd at
@@ -197,7 +197,7 @@ both_damaged db records heads tasks amounts head more shows is some =
     let r = a_record db records heads tasks amounts shows some in
     damaged_null _ (rw (h.2, r.2) refl)
 
-abbrev told_by : Trees → Row → Option Durable
+abbrev told_by : Trees → Row → Option RecordParts
 told_by db head = tasks_in (db 3) >>= λ read_back. head_in_row head (map amount_shown (db 5)) >>= λ d. Some (with_tasks read_back d)
 
 headed : (db : Trees) (records heads tasks amounts : List Row) (head : Row) (more : List Row) → Shows db records heads tasks amounts → heads ≡ head ∷ more → length records ≡ 0 → (kept_in db).body ≡ Some (text_of (told_by db head))
@@ -208,14 +208,14 @@ headed db records heads tasks amounts head more shows is none =
 -- a head that tells no record
 pub unheaded_damaged : (db : Trees) (records heads tasks amounts : List Row) (head : Row) (more : List Row) → Shows db records heads tasks amounts → heads ≡ head ∷ more → length records ≡ 0 → head_in_row head (map amount_shown (db 5)) ≡ None → IsDamaged (kept_in db).body
 unheaded_damaged db records heads tasks amounts head more shows is none unreadable =
-    damaged_null _ (headed db records heads tasks amounts head more shows is none ∙ ap (λ (o : Option Durable). Some (text_of o)) (go (tasks_in (db 3))))
+    damaged_null _ (headed db records heads tasks amounts head more shows is none ∙ ap (λ (o : Option RecordParts). Some (text_of o)) (go (tasks_in (db 3))))
   where
     go : (o : Option (List RecordedTask)) → (o >>= λ read_back. head_in_row head (map amount_shown (db 5)) >>= λ d. Some (with_tasks read_back d)) ≡ None
     go None = refl
-    go (Some ts) = ap (λ (o : Option Durable). o >>= λ d. Some (with_tasks ts d)) unreadable
+    go (Some ts) = ap (λ (o : Option RecordParts). o >>= λ d. Some (with_tasks ts d)) unreadable
 
 -- the text that is kept where the tasks rise
-pub text_kept : (db : Trees) (records heads tasks amounts : List Row) (head : Row) (more : List Row) (ts : List RecordedTask) (d : Durable) → Shows db records heads tasks amounts → heads ≡ head ∷ more → length records ≡ 0
+pub text_kept : (db : Trees) (records heads tasks amounts : List Row) (head : Row) (more : List Row) (ts : List RecordedTask) (d : RecordParts) → Shows db records heads tasks amounts → heads ≡ head ∷ more → length records ≡ 0
     → AreTasksOf tasks ts → AllByRecursion IsTask ts → keys_rise ts ≡ true → head_in_row head (map amount_shown (db 5)) ≡ Some d → HoldsText (kept_in db).body (record_form (with_tasks ts d))
 text_kept db records heads tasks amounts head more ts d shows is none are all rise told_head =
     let up = rises ts all rise in
@@ -231,7 +231,7 @@ text_kept db records heads tasks amounts head more ts d shows is none are all ri
     (row.0, row.1, sym (same_told row.0) ∙ ap read_back (sym row.2) ∙ it.2)) in
     headed db records heads tasks amounts head more shows is none
     ∙ ap (λ (o : Option (List RecordedTask)). Some (text_of (o >>= λ read_back. head_in_row head (map amount_shown (db 5)) >>= λ d. Some (with_tasks read_back d)))) tasks_are
-    ∙ ap (λ (o : Option Durable). Some (text_of (o >>= λ d. Some (with_tasks ts d)))) told_head
+    ∙ ap (λ (o : Option RecordParts). Some (text_of (o >>= λ d. Some (with_tasks ts d)))) told_head
 
 same_text : (body : Option Value) (s t : List ℕ) → HoldsText body s → HoldsText body t → s ≡ t
 same_text body s t p q = go (sym p ∙ q)
@@ -240,7 +240,7 @@ same_text body s t p q = go (sym p ∙ q)
     go e = cc
 
 -- the text of a record that an agent can't have
-pub misfit_damaged : (body : Option Value) (d : Durable) → HoldsText body (record_form d) → IsDurable d → is_record d ≡ false → IsDamaged body
+pub misfit_damaged : (body : Option Value) (d : RecordParts) → HoldsText body (record_form d) → IsDurable d → is_record d ≡ false → IsDamaged body
 misfit_damaged body d holds is misfit = (
   (λ none. absurd (let e = sym none ∙ holds in cc)),
   λ e text there utf8 it.
@@ -252,7 +252,7 @@ misfit_damaged body d holds is misfit = (
     never : false ≡ true → ⊥
     never e = cc
 
-pub only_text : (body : Option Value) (d e : Durable) → HoldsText body (record_form d) → IsDurable d → HoldsText body (record_form e) → IsDurable e → e ≡ d
+pub only_text : (body : Option Value) (d e : RecordParts) → HoldsText body (record_form d) → IsDurable d → HoldsText body (record_form e) → IsDurable e → e ≡ d
 only_text body d e holds is there it = one_record e d it is (same_text body (record_form e) (record_form d) there holds)
 
 pub none_at : {A : Type 0} (xs : List A) → length xs ≡ 0 → xs ≡ []

@@ -4,8 +4,8 @@ use Rattle.std.specs.List.Sorted.{IsPermutation}
 use Rattle.std.proofs.lemmas.List.Sorted.{length_permutation}
 use Rattle.sqlite.specs.Order.{Row}
 use Rattle.sqlite.specs.Tree.{Trees}
-use Rattle.keep_rows.specs.Tables.{AddsFirst, AddsTables, AddsTotals, amount_shown, values_of}
-use Rattle.record_saves.specs.Kept.{body_in, kept_in, last_in}
+use Rattle.keep_tables.specs.Tables.{AddsFirst, AddsTables, AddsTotals, amount_shown, values_of}
+use Rattle.keep_store.specs.SavesKept.{body_in, kept_in, last_in}
 use Rattle.keep_store.specs.Kept.{AddsRows, HasNothing, first_kept, nothing, second_kept, shown_body, shown_last, value_in}
 
 body_first : (rows : List Row) → body_in rows [] [] [] ≡ value_in rows

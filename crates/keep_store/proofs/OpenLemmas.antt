@@ -4,7 +4,7 @@ use Rattle.std.specs.List.{AllZip}
 use Rattle.sqlite.specs.Tree.{Trees}
 use Rattle.sqlite.specs.Schema.{Schema}
 use Rattle.sqlite_catalog.specs.Listing.{IsSound}
-use Rattle.keep_rows.specs.Tables.{keeper_schema, second_schema, first_schema, no_schema}
+use Rattle.keep_tables.specs.Tables.{keeper_schema, second_schema, first_schema, no_schema}
 
 both : {A B : Type 0} (P Q : A → B → Type 0) (xs : List A) (y : B) (ys : List B) → AllZip P xs [] → AllZip Q xs (y ∷ ys) → ⊥
 both P Q [] y ys none some = some

@@ -3,11 +3,11 @@ use Rattle.std.proofs.Common.{◌≡◌, ◌+◌, ℕ, suc, Result, Ok, Err, IfO
 use Rattle.sqlite.specs.Tree.{Trees}
 use Rattle.sqlite.specs.Effect.{Database}
 use Rattle.sqlite.specs.State.{State, HasCleanDisk}
-use Rattle.record_saves.specs.Kept.{kept_in, with_last}
-use Rattle.record_saves.specs.Stops.{LeavesEither}
+use Rattle.keep_store.specs.SavesKept.{kept_in, with_last}
+use Rattle.keep_store.specs.Stops.{LeavesEither}
 use Rattle.keep_store.specs.Kept.{with_run}
-use Rattle.keep_rows.specs.Tables.{IsReady, Stays}
-use Rattle.keep_rows.specs.declared.fault.KeepFault.{KeepFault}
+use Rattle.keep_tables.specs.Tables.{IsReady, Stays}
+use Rattle.keep_tables.specs.declared.rows.fault.KeepFault.{KeepFault}
 
 pub on_any : (r : Result ℕ KeepFault) {P : Type 0} → P → OnOk r P
 on_any (Ok n) h = h

@@ -11,12 +11,12 @@ use Rattle.sqlite.specs.Effect.{Database}
 use Rattle.sqlite.specs.State.{State}
 use Rattle.sqlite_catalog.specs.Listing.{IsSound}
 use Rattle.sqlite_rules.specs.Lists.{Has}
-use Rattle.mails.specs.declared.record.RecordedTask.{RecordedTask}
-use Rattle.mails.specs.declared.record.Durable.{Durable}
-use Rattle.record_text.specs.Written.{IsWritten}
+use Rattle.messages.specs.declared.record.RecordedTask.{RecordedTask}
+use Rattle.messages.specs.declared.record.RecordParts.{RecordParts}
+use Rattle.event_json.specs.Written.{IsWritten}
 use Rattle.agent_core.specs.Records.{is_record}
-use Rattle.keep_rows.specs.Tables.{AddsTotals, AreLone, IsCommitted, IsLone, first_schema, second_schema, keeper_schema, no_schema}
-use Rattle.record_saves.specs.Kept.{Kept, body_in, kept_in, last_in, read_back, whole, with_last, IsRowOf}
+use Rattle.keep_tables.specs.Tables.{AddsTotals, AreLone, IsCommitted, IsLone, first_schema, second_schema, keeper_schema, no_schema}
+use Rattle.keep_store.specs.SavesKept.{Kept, body_in, kept_in, last_in, read_back, whole, with_last, IsRowOf}
 
 -- the value of the row of a table of an id and a value
 abbrev pub value_in : List Row → Option Value
@@ -61,11 +61,11 @@ abbrev pub HoldsText : Option Value → List ℕ → Type 0
 HoldsText body text = body ≡ Some (Text text)
 
 -- the text is the written form of a record that an agent can have
-abbrev pub IsRecordText : Durable → List ℕ → Type 0
+abbrev pub IsRecordText : RecordParts → List ℕ → Type 0
 IsRecordText d text = IsWritten d text × (is_record d ≡ true)
 
 -- no record where nothing is kept, and else the record whose written form is
-abbrev pub IsLoaded : Option Value → Option Durable → Type 0
+abbrev pub IsLoaded : Option Value → Option RecordParts → Type 0
 IsLoaded body found =
     MatchOption found (body ≡ None) (λ d. (text : List ℕ) × HoldsText body text
     × IsRecordText d text)
@@ -73,7 +73,7 @@ IsLoaded body found =
 -- something is kept, and no UTF-8 text (RFC 3629) that is a record's
 abbrev pub IsDamaged : Option Value → Type 0
 IsDamaged body =
-    (body ≢ None) × ((d : Durable) (text : List ℕ) → HoldsText body text → IsUtf8 text
+    (body ≢ None) × ((d : RecordParts) (text : List ℕ) → HoldsText body text → IsUtf8 text
     → IsRecordText d text → ⊥)
 
 -- what is in the row of the table run_number, if there is one

@@ -3,10 +3,10 @@
 ghost use Rattle.std.specs.Prelude.{◌≡◌, ◌≢◌, true, false, IsOk, OnOk};
 ghost use Rattle.sqlite.specs.State.{HasCleanDisk, Survives};
 ghost use Rattle.sqlite.specs.Held.{state};
-ghost use Rattle.keep_rows.specs.Tables.{AddsFirst, AddsTables, AddsTotals, HasKnownTables, first_schema, second_schema, keeper_schema, no_schema};
+ghost use Rattle.keep_tables.specs.Tables.{AddsFirst, AddsTables, AddsTotals, HasKnownTables, first_schema, second_schema, keeper_schema, no_schema};
 ghost use Rattle.keep_store.specs.Kept.{Completes, LeavesIf, MakesIf, StillKeeps};
 
-use keep_rows::statements::{make_first_tables, make_task_tables, make_total_table};
+use keep_tables::statements::{make_first_tables, make_task_tables, make_total_table};
 use keep_tables::{is_first, is_new, is_second};
 use sqlite::{Alter, Connection, Error};
 

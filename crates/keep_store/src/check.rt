@@ -5,15 +5,14 @@ ghost use Rattle.sqlite.specs.declared.types.Value.TheVariants.{Int};
 ghost use Rattle.sqlite.specs.Tree.{rowid};
 ghost use Rattle.sqlite.specs.State.{HasCleanDisk, Survives};
 ghost use Rattle.sqlite.specs.Held.{state};
-ghost use Rattle.record_saves.specs.Kept.{kept_in};
+ghost use Rattle.keep_store.specs.SavesKept.{kept_in};
 ghost use Rattle.keep_store.specs.Kept.{StillKeeps, first_kept, nothing, second_kept};
-ghost use Rattle.keep_rows.specs.Tables.{HasKnownTables, IsKnown, IsLone, IsOurs, IsReady, first_schema, second_schema, keeper_schema, no_schema};
+ghost use Rattle.keep_tables.specs.Tables.{HasKnownTables, IsKnown, IsLone, IsOurs, IsReady, first_schema, second_schema, keeper_schema, no_schema};
 
 use crate::adding::add_tables;
-use keep_rows::statements::{read_head_ids, read_record_ids, read_run_ids};
-use keep_rows::{KeepFault, number_at};
-use keep_tables::is_ours;
-use record_saves::fault::fault_of;
+use crate::saves::fault::fault_of;
+use keep_tables::statements::{read_head_ids, read_record_ids, read_run_ids};
+use keep_tables::{KeepFault, is_ours, number_at};
 use sqlite::{Alter, Connection, Error, Row};
 
 /// Refuses a row that doesn't begin with 1.

@@ -5,31 +5,30 @@ ghost use Rattle.std.specs.Str.{IsUtf8};
 ghost use Rattle.sqlite.specs.declared.types.Value.TheVariants.{Text};
 ghost use Rattle.sqlite.specs.State.{HasCleanDisk, Survives};
 ghost use Rattle.sqlite.specs.Held.{state};
-ghost use Rattle.mails.specs.declared.record.Durable.{Durable};
+ghost use Rattle.messages.specs.declared.record.RecordParts.{RecordParts};
 ghost use Rattle.agent_core.specs.Records.{is_record};
-ghost use Rattle.record_text.specs.Texts.{record_form};
-ghost use Rattle.record_text.specs.Written.{IsDurable};
-ghost use Rattle.record_saves.specs.Kept.{kept_in, with_record};
+ghost use Rattle.event_json.specs.Texts.{record_form};
+ghost use Rattle.event_json.specs.Written.{IsDurable};
+ghost use Rattle.keep_store.specs.SavesKept.{kept_in, with_record};
 ghost use Rattle.keep_store.specs.Kept.{StillKeeps, first_kept, nothing, second_kept, with_run, HoldsText, IsDamaged, IsLoaded, HoldsRun, HoldsNoRun, run_in, shown_body, shown_last};
-ghost use Rattle.record_saves.specs.Stops.{LeavesEither, Stands};
-ghost use Rattle.keep_rows.specs.Tables.{HasKnownTables, IsKnown, IsReady, Stays, first_schema, second_schema, no_schema};
-ghost use Rattle.keep_rows.specs.declared.fault.KeepFault.TheVariants as faults;
+ghost use Rattle.keep_store.specs.Stops.{LeavesEither, Stands};
+ghost use Rattle.keep_tables.specs.Tables.{HasKnownTables, IsKnown, IsReady, Stays, first_schema, second_schema, no_schema};
+ghost use Rattle.keep_tables.specs.declared.rows.fault.KeepFault.TheVariants as faults;
 
 use crate::check::prepare;
 use crate::reading::record_shown;
+use crate::saves::fault::fault_of;
+use crate::saves::{head_seen, run_behind, save_record};
 use crate::seen::seen_in;
 use agent_core::Record;
-use keep_rows::statements::read_lasts;
-use keep_rows::{KeepFault, read_rows};
-use listed::Listed;
-use mails::{Durable, RecordedTask};
-use record_saves::fault::fault_of;
-use record_saves::{head_seen, run_behind, save_record};
-use shared_value::Shared;
+use keep_tables::statements::read_lasts;
+use keep_tables::{KeepFault, read_rows};
+use messages::{RecordParts, RecordedTask};
 use sqlite::{Alter, Connection, Error, ErrorCode, Row};
 use std::alloc::Global;
 use std::marker::Model;
 use std::mem;
+use values::{Listed, Shared};
 
 /// A store of an agent's record and of the master's last run, over any store of SQLite.
 /// After a refusal by K1 or K4 of a save or of a next run the caller opens it again.
@@ -40,15 +39,15 @@ pub struct Keeper<S: Alter> {
     /// The tasks that were saved or loaded last, unless nothing is known of the rows.
     seen: Option<Listed<Shared<RecordedTask>>>,
     /// The parts that were saved last but the tasks, unless nothing is known of the head.
-    head: Option<Durable>,
+    head: Option<RecordParts>,
 }
 
 impl<S: Alter> Model for Keeper<S> {
     ghost use Rattle.std.specs.Prelude.{IsTrue};
     ghost use Rattle.sqlite.specs.Held.{Held, held_code, state};
     ghost use Rattle.sqlite.specs.State.{HasCleanDisk};
-    ghost use Rattle.record_saves.specs.Kept.{AreSeen, IsHeadSeen, Knows, KnowsHead};
-    ghost use Rattle.keep_rows.specs.Tables.{IsReady};
+    ghost use Rattle.keep_store.specs.SavesKept.{AreSeen, IsHeadSeen, Knows, KnowsHead};
+    ghost use Rattle.keep_tables.specs.Tables.{IsReady};
 
     ghost Value = { Held S };
 
@@ -200,14 +199,14 @@ impl<S: Alter> Keeper<S> {
             → HasCleanDisk (state S.Store self.old) }
         ensures loaded { IsReady (state S.Store self.old) → HasCleanDisk (state S.Store self.new)
             → IfOk result (IsLoaded (kept_in (state S.Store self.old).now.trees).body) }
-        ensures saved { (d : Durable) → IsReady (state S.Store self.old)
+        ensures saved { (d : RecordParts) → IsReady (state S.Store self.old)
             → HasCleanDisk (state S.Store self.new) → IsDurable d
             → HoldsText (kept_in (state S.Store self.old).now.trees).body (record_form d)
             → IfOk result (λ found. found ≡ Some d) }
         ensures damaged { IsReady (state S.Store self.old) → HasCleanDisk (state S.Store self.new)
             → IsErrOf result KeepFault.Damaged
             → IsDamaged (kept_in (state S.Store self.old).now.trees).body }
-        ensures readable { (d : Durable) → IsReady (state S.Store self.old)
+        ensures readable { (d : RecordParts) → IsReady (state S.Store self.old)
             → HasCleanDisk (state S.Store self.new) → IsDurable d → is_record d ≡ true
             → IsUtf8 (record_form d) → HoldsText (kept_in (state S.Store self.old).now.trees).body
             (record_form d) → IsErrOf result KeepFault.Damaged → ⊥ }

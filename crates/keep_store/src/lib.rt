@@ -8,8 +8,10 @@ mod keeper;
 mod open;
 mod reading;
 mod record;
+mod saves;
 mod seen;
 
-pub use keep_rows::KeepFault;
+pub use event_json::{record_of, record_text};
+pub use keep_tables::KeepFault;
 pub use keeper::Keeper;
-pub use record_text::{record_of, record_text};
+pub use saves::{fault, head_seen, run_behind, save_record};

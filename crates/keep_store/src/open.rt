@@ -7,14 +7,14 @@ ghost use Rattle.sqlite.specs.State.{HasCleanDisk};
 ghost use Rattle.sqlite.specs.Files.{file_state, HoldsDatabase};
 ghost use Rattle.sqlite.specs.WalFiles.{image_at};
 ghost use Rattle.sqlite_catalog.specs.Listing.{IsSound};
-ghost use Rattle.record_saves.specs.Kept.{kept_in};
+ghost use Rattle.keep_store.specs.SavesKept.{kept_in};
 ghost use Rattle.keep_store.specs.Kept.{ReadsAs, first_kept, second_kept};
-ghost use Rattle.keep_rows.specs.Tables.{IsKnown, IsReady, fault_for, first_schema, second_schema, keeper_schema, no_schema};
+ghost use Rattle.keep_tables.specs.Tables.{IsKnown, IsReady, fault_for, first_schema, second_schema, keeper_schema, no_schema};
 
 use crate::files::connect;
 use crate::keeper::Keeper;
-use keep_rows::KeepFault;
-use record_saves::fault::fault_of;
+use crate::saves::fault::fault_of;
+use keep_tables::KeepFault;
 use sqlite::{Alter, Connection, Error, FileFrom, FileStore, Start, Unknown};
 use sqlite_disk::Disk;
 

@@ -3,31 +3,30 @@
 ghost use Rattle.std.specs.Prelude.{◌≡◌, ◌≢◌, ◌⊎◌, true, false, Some, None, IfOk, IfErr, IsErrOf, IsPermutation, List, [], length, string_bytes};
 ghost use Rattle.sqlite.specs.Tree.{Trees};
 ghost use Rattle.agent_core.specs.Records.{keys_rise, is_record};
-ghost use Rattle.mails.specs.declared.record.Durable.{Durable};
-ghost use Rattle.record_text.specs.Texts.{record_form};
+ghost use Rattle.messages.specs.declared.record.RecordParts.{RecordParts};
+ghost use Rattle.event_json.specs.Texts.{record_form};
 ghost use Rattle.std.specs.List.{AllByRecursion};
 ghost use Rattle.sqlite.specs.Order.{Row as Shown, column};
 ghost use Rattle.names_core.specs.Names.{is_name};
 ghost use Rattle.quantity.specs.Rows.{AreRows};
-ghost use Rattle.record_text.specs.Reading.{task_in, total_in, where_true};
-ghost use Rattle.keep_rows.specs.Columns.{Gives, number_at, text_at};
-ghost use Rattle.record_text.specs.Written.{IsTask, IsDurable};
-ghost use Rattle.record_saves.specs.Kept.{IsPut, kept_in, read_back, own_in_row, total_by, head_in_row, with_tasks};
+ghost use Rattle.event_json.specs.Reading.{task_in, total_in, where_true};
+ghost use Rattle.keep_tables.specs.Columns.{Gives, number_at, text_at};
+ghost use Rattle.event_json.specs.Written.{IsTask, IsDurable};
+ghost use Rattle.keep_store.specs.SavesKept.{IsPut, kept_in, read_back, own_in_row, total_by, head_in_row, with_tasks};
 ghost use Rattle.keep_store.specs.Kept.{IsDamaged, IsLoaded, HoldsText, AreTasksOf, SomeUnreadable};
-ghost use Rattle.keep_rows.specs.Tables.{Shows};
-ghost use Rattle.keep_rows.specs.declared.fault.KeepFault.TheVariants as faults;
+ghost use Rattle.keep_tables.specs.Tables.{Shows};
+ghost use Rattle.keep_tables.specs.declared.rows.fault.KeepFault.TheVariants as faults;
 
 use crate::record::{first_body, of_an_agent, record_in};
 use agent_core::{Record, keys_rise};
-use keep_rows::{KeepFault, number_at, text_at};
-use listed::Listed;
-use mails::{Durable, RecordedTask};
+use event_json::{RecordFault, task_of_text, total_of_text};
+use keep_tables::{KeepFault, number_at, text_at};
+use messages::{RecordParts, RecordedTask};
 use names_core::{AgentName, NameFault};
 use quantity::Resources;
-use record_text::{RecordFault, task_of_text, total_of_text};
-use shared_value::Shared;
 use sqlite::{Error, ErrorCode, Row};
 use std::alloc::Global;
+use values::{Listed, Shared};
 
 /// The task of a text.
 fn task_of(alloc: Global, text: &str) -> Result<Shared<RecordedTask>, KeepFault>
@@ -42,7 +41,7 @@ fn task_of(alloc: Global, text: &str) -> Result<Shared<RecordedTask>, KeepFault>
 }
 
 /// The task of a row of rowid, run, number and body.
-#[tactic(auto, unfolding(record_saves::specs::Kept::read_back))]
+#[tactic(auto, unfolding(crate::specs::SavesKept::read_back))]
 fn task_in(alloc: Global, row: &Row) -> Result<Shared<RecordedTask>, KeepFault>
     ensures read_back { Gives (λ t. t) result (read_back row.now) }
     ensures is_put { IfOk result IsPut }
@@ -82,8 +81,8 @@ fn name_of(alloc: Global, text: &str) -> Result<AgentName, KeepFault>
 
 /// The record of a head's row of name, run, session, total and version,
 /// with its own total and no tasks yet.
-#[tactic(auto, unfolding(record_saves::specs::Kept::own_in_row))]
-fn own_in_row(alloc: Global, head: &Row) -> Result<Durable, KeepFault>
+#[tactic(auto, unfolding(crate::specs::SavesKept::own_in_row))]
+fn own_in_row(alloc: Global, head: &Row) -> Result<RecordParts, KeepFault>
     ensures read_back { Gives (λ d. d) result (own_in_row head.now) }
     ensures durable { IfOk result IsDurable }
 {
@@ -93,7 +92,7 @@ fn own_in_row(alloc: Global, head: &Row) -> Result<Durable, KeepFault>
     let session = number_at(head, 2)?;
     let body = text_at(head, 3)?;
     let total = total_of(alloc, body.as_str())?;
-    Ok(Durable {
+    Ok(RecordParts {
         name,
         total,
         session,
@@ -128,7 +127,7 @@ fn second_total(alloc: Global, own: Resources, amounts: &[Row]) -> Result<Resour
     ensures unspent { IfErr result (λ e. e ≢ KeepFault.RunsSpent) }
 {
     if own.is_empty() {
-        keep_rows::total_of(alloc, amounts)
+        keep_tables::total_of(alloc, amounts)
     } else {
         Err(KeepFault::Damaged)
     }
@@ -156,7 +155,7 @@ fn total_by(
 }
 
 /// The record of a head, with no tasks yet. The rows are those of the amounts of its total.
-fn head_in_row(alloc: Global, head: &Row, amounts: &[Row]) -> Result<Durable, KeepFault>
+fn head_in_row(alloc: Global, head: &Row, amounts: &[Row]) -> Result<RecordParts, KeepFault>
     ensures read_back { (held : List Shown) → IsPermutation held amounts.now
         → IfOk result (λ d. head_in_row head.now held ≡ Some d) }
     ensures unreadable { (held : List Shown) → IsPermutation held amounts.now
@@ -164,7 +163,7 @@ fn head_in_row(alloc: Global, head: &Row, amounts: &[Row]) -> Result<Durable, Ke
     ensures durable { IfOk result IsDurable }
     ensures unspent { IfErr result (λ e. e ≢ KeepFault.RunsSpent) }
 {
-    let Durable {
+    let RecordParts {
         name,
         total,
         session,
@@ -173,7 +172,7 @@ fn head_in_row(alloc: Global, head: &Row, amounts: &[Row]) -> Result<Durable, Ke
     } = own_in_row(alloc, head)?;
     let version = number_at(head, 4)?;
     let total = total_by(alloc, version, total, amounts)?;
-    Ok(Durable {
+    Ok(RecordParts {
         name,
         total,
         session,
@@ -205,14 +204,14 @@ fn record_with(
     amounts: &[Row],
 ) -> Result<Option<Record>, KeepFault>
     ensures found { (held : List Shown) → IsPermutation held amounts.now
-        → AllByRecursion IsTask tasks.items → IfOk result (λ found. (d : Durable)
+        → AllByRecursion IsTask tasks.items → IfOk result (λ found. (d : RecordParts)
         × (head_in_row head.now held ≡ Some d) × (found ≡ Some (with_tasks tasks.items d))
         × (keys_rise tasks.items ≡ true) × IsDurable (with_tasks tasks.items d)
         × (is_record (with_tasks tasks.items d) ≡ true)) }
     ensures damaged { (held : List Shown) → IsPermutation held amounts.now
         → AllByRecursion IsTask tasks.items → IsErrOf result KeepFault.Damaged
         → (head_in_row head.now held ≡ None)
-        ⊎ ((d : Durable) × (head_in_row head.now held ≡ Some d) × (keys_rise tasks.items ≡ true)
+        ⊎ ((d : RecordParts) × (head_in_row head.now held ≡ Some d) × (keys_rise tasks.items ≡ true)
         × IsDurable (with_tasks tasks.items d) × (is_record (with_tasks tasks.items d) ≡ false)) }
     ensures unspent { IfErr result (λ e. e ≢ KeepFault.RunsSpent) }
 {
@@ -235,13 +234,13 @@ pub fn record_shown(
 ) -> Result<Option<Record>, KeepFault>
     ensures loaded { (db : Trees) → Shows db records.now heads.now tasks.now amounts.now
         → IfOk result (IsLoaded (kept_in db).body) }
-    ensures saved { (db : Trees) (d : Durable)
+    ensures saved { (db : Trees) (d : RecordParts)
         → Shows db records.now heads.now tasks.now amounts.now → IsDurable d
         → HoldsText (kept_in db).body (record_form d) → IfOk result (λ found. found ≡ Some d) }
     ensures damaged { (db : Trees) → Shows db records.now heads.now tasks.now amounts.now
         → IsErrOf result KeepFault.Damaged → IsDamaged (kept_in db).body }
-    ensures read_back { IfOk result (λ found. (d : Durable) → found ≡ Some d → length heads.now ≢ 0
-        → AreTasksOf tasks.now d.tasks × AllByRecursion IsPut d.tasks) }
+    ensures read_back { IfOk result (λ found. (d : RecordParts) → found ≡ Some d
+        → length heads.now ≢ 0 → AreTasksOf tasks.now d.tasks × AllByRecursion IsPut d.tasks) }
     ensures unspent { IfErr result (λ e. e ≢ KeepFault.RunsSpent) }
 {
     let read_back = tasks_in(alloc, tasks)?;

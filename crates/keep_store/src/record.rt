@@ -2,21 +2,21 @@
 
 ghost use Rattle.std.specs.Prelude.{◌≡◌, ◌≢◌, true, false, Some, IfOk, IfErr, IsErrOf, option_map, string_bytes};
 ghost use Rattle.sqlite.specs.declared.types.Value.TheVariants.{Text};
-ghost use Rattle.mails.specs.declared.record.Durable.{Durable};
-ghost use Rattle.record_text.specs.Texts.{record_form};
-ghost use Rattle.record_text.specs.Written.{IsDurable, IsWritten};
+ghost use Rattle.messages.specs.declared.record.RecordParts.{RecordParts};
+ghost use Rattle.event_json.specs.Texts.{record_form};
+ghost use Rattle.event_json.specs.Written.{IsDurable, IsWritten};
 ghost use Rattle.agent_core.specs.Records.{is_record};
 ghost use Rattle.keep_store.specs.Kept.{IsDamaged, IsLoaded, IsRecordText, shown_body};
 
 use agent_core::Record;
-use keep_rows::KeepFault;
-use mails::Durable;
-use record_text::{RecordFault, record_of};
+use event_json::{RecordFault, record_of};
+use keep_tables::KeepFault;
+use messages::RecordParts;
 use sqlite::{Error, ErrorCode, Row};
 use std::alloc::Global;
 
 /// A record, if an agent can have it.
-pub fn of_an_agent(alloc: Global, durable: Durable) -> Result<Record, KeepFault>
+pub fn of_an_agent(alloc: Global, durable: RecordParts) -> Result<Record, KeepFault>
     ensures ok { IfOk result (λ found. (found ≡ durable) × (is_record durable ≡ true)) }
     ensures damaged { IsErrOf result KeepFault.Damaged → is_record durable ≡ false }
     ensures unspent { IfErr result (λ e. e ≢ KeepFault.RunsSpent) }
@@ -31,8 +31,8 @@ pub fn of_an_agent(alloc: Global, durable: Durable) -> Result<Record, KeepFault>
 /// The record of a text.
 fn record_at(alloc: Global, text: &str) -> Result<Record, KeepFault>
     ensures ok { IfOk result (λ found. IsRecordText found text.now) }
-    ensures only { (d : Durable) → IsWritten d text.now → IfOk result (λ found. found ≡ d) }
-    ensures damaged { IsErrOf result KeepFault.Damaged → (d : Durable) → IsRecordText d text.now
+    ensures only { (d : RecordParts) → IsWritten d text.now → IfOk result (λ found. found ≡ d) }
+    ensures damaged { IsErrOf result KeepFault.Damaged → (d : RecordParts) → IsRecordText d text.now
         → ⊥ }
     ensures unspent { IfErr result (λ e. e ≢ KeepFault.RunsSpent) }
 {
@@ -46,7 +46,7 @@ fn record_at(alloc: Global, text: &str) -> Result<Record, KeepFault>
 /// The record of the text of a row, if there is one.
 pub fn record_in(alloc: Global, text: Option<String>) -> Result<Option<Record>, KeepFault>
     ensures loaded { IfOk result (IsLoaded (option_map (λ text. Text (string_bytes text)) text)) }
-    ensures saved { (d : Durable) → IsDurable d
+    ensures saved { (d : RecordParts) → IsDurable d
         → option_map (λ text. Text (string_bytes text)) text ≡ Some (Text (record_form d))
         → IfOk result (λ found. found ≡ Some d) }
     ensures damaged { IsErrOf result KeepFault.Damaged

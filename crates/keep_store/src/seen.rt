@@ -3,18 +3,16 @@
 ghost use Rattle.std.specs.Prelude.{◌≡◌, ◌≢◌, true, IsTrue, Some, length};
 ghost use Rattle.std.specs.List.{AllByRecursion};
 ghost use Rattle.sqlite.specs.Tree.{Trees};
-ghost use Rattle.mails.specs.declared.record.Durable.{Durable};
-ghost use Rattle.record_saves.specs.Kept.{AreSeen, IsPut, Knows};
+ghost use Rattle.messages.specs.declared.record.RecordParts.{RecordParts};
+ghost use Rattle.keep_store.specs.SavesKept.{AreSeen, IsPut, Knows};
 ghost use Rattle.keep_store.specs.Kept.{AreTasksOf, IsPlaced};
-ghost use Rattle.keep_rows.specs.Tables.{Shows};
+ghost use Rattle.keep_tables.specs.Tables.{Shows};
 
 use agent_core::Record;
-use keep_rows::Rows;
-use listed::Listed;
-use mails::RecordedTask;
-use plain_data::Plain;
-use shared_value::Shared;
+use keep_tables::Rows;
+use messages::RecordedTask;
 use sqlite::Row;
+use values::{Listed, Plain, Shared};
 
 /// Whether a row of rowid, run, number and body is at the place of its task.
 /// False also where memory runs out.
@@ -42,7 +40,7 @@ fn are_placed(rows: &[Row]) -> bool
 
 /// The tasks of a record that was found with a head, where each row is at its task's place.
 pub fn seen_in(rows: &Rows, found: &Option<Record>) -> Option<Listed<Shared<RecordedTask>>>
-    requires read_back { (d : Durable) → found.now ≡ Some d → length rows.now.heads.items ≢ 0
+    requires read_back { (d : RecordParts) → found.now ≡ Some d → length rows.now.heads.items ≢ 0
         → AreTasksOf rows.now.tasks.items d.tasks × AllByRecursion IsPut d.tasks }
     ensures put { AreSeen result }
     ensures knows { (db : Trees)

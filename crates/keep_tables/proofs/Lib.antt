@@ -1,1 +1,11 @@
 pub mod CheckLemmas
+pub mod TextLemmas
+pub mod RowLemmas
+pub mod StepLemmas
+pub mod ReadLemmas
+pub mod StoreLemmas
+pub mod QueryLemmas
+pub mod OrderLemmas
+pub mod MakeLemmas
+pub mod ColumnLemmas
+pub mod TotalLemmas

@@ -1,1 +1,4 @@
 pub mod Schemas
+pub mod Tables
+pub mod Columns
+pub mod Totals

@@ -2,6 +2,8 @@
 //! whether a schema is that of these.
 #![tactic(auto)]
 
+mod rows;
+
 ghost use Rattle.std.specs.Prelude.{◌≡◌, ◌<◌, ◌↔◌, ◌∷◌, [], ℕ, IsTrue, IfNone, IfSome, List, None, Some, codes, false, true, length, pos, slice_get};
 ghost use Rattle.sqlite_schema.specs.Code.{terms_in};
 ghost use Rattle.sqlite.specs.Kind.TheVariants.{Integer, Text as Words};
@@ -13,6 +15,10 @@ ghost use Rattle.sqlite_sql.specs.declared.ops.CompareOp.TheVariants.{Eq};
 ghost use Rattle.sqlite.specs.Collation.TheVariants.{Binary};
 ghost use Rattle.keep_tables.specs.Schemas.{no_schema, first_schema, second_schema, keeper_schema, lone_table, record_table, run_table, head_table, task_table, task_index, total_table, total_index, head_columns, task_columns, total_columns, column_of, index_of, id_check, no_stamps, id_column};
 
+pub use rows::{
+    KeepFault, Rows, amount_at, changes, corrupt, fault_of, number_at, read_rows, statements,
+    text_at, total_of, write_total,
+};
 use sqlite_schema::code::{Op, Terms};
 use sqlite_schema::schema::{Column, Index, Kind, Schema, Stamps, Table};
 use sqlite_sql::ops::{BinaryOp, CompareOp};

@@ -4,18 +4,18 @@ use Rattle.std.specs.List.{list_any}
 use Rattle.names_core.specs.Ids.{Numbered}
 use Rattle.names_core.specs.Updates.{Update}
 use Rattle.names_core.specs.declared.state.TaskState.TheVariants.{Lost}
-use Rattle.mails.specs.declared.call.Call.TheVariants as calls
-use Rattle.mails.specs.declared.framework.Framework.{Framework}
-use Rattle.mails.specs.declared.mail.Command.{Command}
-use Rattle.mails.specs.declared.refusal.MasterRefusal.{MasterRefusal}
-use Rattle.mails.specs.declared.refusal.MasterRefusal.TheVariants.{LimitExceeded}
+use Rattle.messages.specs.declared.call.Call.TheVariants as calls
+use Rattle.messages.specs.declared.framework.Framework.{Framework}
+use Rattle.messages.specs.declared.mail.Command.{Command}
+use Rattle.messages.specs.declared.refusal.MasterRefusal.{MasterRefusal}
+use Rattle.messages.specs.declared.refusal.MasterRefusal.TheVariants.{LimitExceeded}
 use Rattle.cluster_model.specs.Sides.{SendKill, Side, SideStep, issue, sends_nothing, side_step}
 use Rattle.cluster_model.specs.Events.{update_event}
-use Rattle.cluster_model.specs.Masters.{AtSide, Doing, Master, Moved, Placed, held, keeping, may_have_numbers, moving, on_stream, refused, saying, sending_more, side_of, with_framework}
-use Rattle.cluster_model.specs.Calls.{by_framework, called, commanding, on_acknowledge, on_kill}
-use Rattle.frameworks.specs.Frameworks.{KeepsId, are_ordered, changed}
-use Rattle.frameworks.proofs.Ordered.{put_changed}
-use Rattle.agent_sides.specs.Looks.{all_placed, at_name, is_received_last, next_command, value_of}
+use Rattle.cluster_model.specs.Masters.{AtSide, MasterEffect, Master, Moved, Placed, held, keeping, may_have_numbers, moving, on_stream, refused, saying, sending_more, side_of, with_framework}
+use Rattle.cluster_model.specs.Calls.{by_framework, call_effect, commanding, on_acknowledge, on_kill}
+use Rattle.master_state.specs.Frameworks.{KeepsId, are_ordered, changed}
+use Rattle.master_state.proofs.Ordered.{put_changed}
+use Rattle.master_agents.specs.Looks.{all_placed, at_name, is_received_last, next_command, value_of}
 use Rattle.roster.specs.Sessions.{with_command}
 use Rattle.master_state.specs.declared.state.State.{State}
 use Rattle.master_state.specs.States.{ordered, ordered_as}
@@ -26,7 +26,7 @@ use Rattle.master_state.proofs.Moves.{commanded, mails_of, moved_so}
 use Rattle.master_calls.specs.Tasks.{HeldTask, acks, held_task, kill_limit, kills, sends_task}
 
 -- a call that isn't admitted is refused
-pub turned_down : (s : State) (given : Option Numbered) (framework : Numbered) (refusal : MasterRefusal) (doing : Framework → Doing) → admission (master_of s) given framework ≡ Err refusal
+pub turned_down : (s : State) (given : Option Numbered) (framework : Numbered) (refusal : MasterRefusal) (doing : Framework → MasterEffect) → admission (master_of s) given framework ≡ Err refusal
     → ((by_framework (master_of s) given framework doing).refusal ≡ Some refusal) × (s ≡ s)
 turned_down s given framework refusal doing e = (ap (λ d. d.refusal) (refuses (master_of s) given framework refusal e doing), refl)
 
@@ -36,7 +36,7 @@ abbrev with_frameworks : List Framework → State → State
 with_frameworks fs s = record s { frameworks = fs }
 
 pub changed_so : (change : Framework → Framework) → KeepsId change → (s : State) (given : Option Numbered) (framework stream : Numbered) → admission (master_of s) given framework ≡ Ok stream → are_ordered s.frameworks ≡ true
-    → (doing : Framework → Doing) → ((f : Framework) → doing f ≡ keeping (with_framework (registers_of s) (change f)))
+    → (doing : Framework → MasterEffect) → ((f : Framework) → doing f ≡ keeping (with_framework (registers_of s) (change f)))
     → ((by_framework (master_of s) given framework doing).refusal ≡ None) × (work_of (with_frameworks (map (changed change framework) s.frameworks) s) ≡ done (by_framework (master_of s) given framework doing) (work_of s))
 changed_so change keeps_id s given framework stream e ordered doing same =
     let a : Admitted (master_of s) given framework stream = admits (master_of s) given framework stream e in
@@ -76,7 +76,7 @@ kills_is m task agent f stream e (Some p) =
     ap (λ s. if p.booked.ended then saying m (on_stream s (update_event p.booked.job.name p.booked.state (Some p.agent) None)) else commanding m (side_of m p.agent) (AtSide p.agent (SendKill p.booked.job.key))) e
 
 pub killed : (m : Master) (given : Option Numbered) (framework stream : Numbered) (task : List ℕ) (agent : Option (List ℕ)) (h : Option HeldTask) → admission m given framework ≡ Ok stream → h ≡ option_map held_task (held m framework task)
-    → kills m stream task agent h ≡ called m given (calls.Kill framework task agent)
+    → kills m stream task agent h ≡ call_effect m given (calls.Kill framework task agent)
 killed m given framework stream task agent h e is =
     let a : Admitted m given framework stream = admits m given framework stream e in
     ap (kills m stream task agent) is
@@ -95,7 +95,7 @@ kills_refused m stream task agent (Some p) = by_end p.booked.ended (may_have_num
     by_end false false = refl
 
 pub kill_refused : (m : Master) (given : Option Numbered) (framework stream : Numbered) (task : List ℕ) (agent : Option (List ℕ)) → admission m given framework ≡ Ok stream
-    → (called m given (calls.Kill framework task agent)).refusal ≡ kill_limit m (held m framework task)
+    → (call_effect m given (calls.Kill framework task agent)).refusal ≡ kill_limit m (held m framework task)
 kill_refused m given framework stream task agent e =
     ap (λ d. d.refusal) (sym (killed m given framework stream task agent (option_map held_task (held m framework task)) e refl)) ∙ kills_refused m stream task agent (held m framework task)
 
@@ -109,14 +109,14 @@ has_number m (Some p) e = by (p.booked.ended || may_have_numbers 1 (side_of m p.
     by false e = absurd (cc)
 
 pub acked : (m : Master) (given : Option Numbered) (framework stream : Numbered) (agent task : List ℕ) (uuid : Update) (b : Bool) → admission m given framework ≡ Ok stream → b ≡ list_any (is_received_last framework agent task uuid.key uuid.k) (all_placed m.sides)
-    → acks m agent uuid.key uuid.k b ≡ called m given (calls.Acknowledge framework agent task uuid)
+    → acks m agent uuid.key uuid.k b ≡ call_effect m given (calls.Acknowledge framework agent task uuid)
 acked m given framework stream agent task uuid b e is =
     let a : Admitted m given framework stream = admits m given framework stream e in
     ap (acks m agent uuid.key uuid.k) is
     ∙ sym (a.does (on_acknowledge m agent task uuid.key uuid.k) ∙ ap (λ id. acks m agent uuid.key uuid.k (list_any (is_received_last id agent task uuid.key uuid.k) (all_placed m.sides))) a.id)
 
 pub acked_at : (m : Master) (given : Option Numbered) (framework stream : Numbered) (agent task : List ℕ) (uuid : Update) (key : Numbered) (k : ℕ) (b : Bool) → admission m given framework ≡ Ok stream → key ≡ uuid.key → k ≡ uuid.k
-    → b ≡ list_any (is_received_last framework agent task key k) (all_placed m.sides) → acks m agent key k b ≡ called m given (calls.Acknowledge framework agent task uuid)
+    → b ≡ list_any (is_received_last framework agent task key k) (all_placed m.sides) → acks m agent key k b ≡ call_effect m given (calls.Acknowledge framework agent task uuid)
 acked_at m given framework stream agent task uuid key k b e key_is k_is is =
     ap (λ x. acks m agent x k b) key_is ∙ ap (λ y. acks m agent uuid.key y b) k_is
     ∙ acked m given framework stream agent task uuid b e

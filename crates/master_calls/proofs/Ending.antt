@@ -3,21 +3,21 @@ use Rattle.std.proofs.Common.{◌≡◌, ℕ, Bool, true, false, not, ◌||◌, 
 use Rattle.std.specs.List.{list_any}
 use Rattle.std.proofs.lemmas.Bool.Decides.{nat_tests}
 use Rattle.names_core.specs.Ids.{Numbered, same}
-use Rattle.mails.specs.declared.call.Call.TheVariants as calls
-use Rattle.mails.specs.declared.framework.Framework.{Framework}
-use Rattle.mails.specs.declared.mail.Command.{Command}
-use Rattle.mails.specs.declared.mail.Command.TheVariants.{EndFramework}
-use Rattle.mails.specs.declared.refusal.MasterRefusal.TheVariants.{LimitExceeded}
+use Rattle.messages.specs.declared.call.Call.TheVariants as calls
+use Rattle.messages.specs.declared.framework.Framework.{Framework}
+use Rattle.messages.specs.declared.mail.Command.{Command}
+use Rattle.messages.specs.declared.mail.Command.TheVariants.{EndFramework}
+use Rattle.messages.specs.declared.refusal.MasterRefusal.TheVariants.{LimitExceeded}
 use Rattle.cluster_model.specs.Ids.{is_among}
 use Rattle.cluster_model.specs.Sides.{SendEnd, Side, issue, sends_nothing, side_step}
-use Rattle.cluster_model.specs.Masters.{AtSide, Doing, Master, Move, Moved, TearDownAll, framework_of, has_numbers, is_of, move, move_all, refused, with_framework, withdraws}
-use Rattle.cluster_model.specs.Calls.{called, on_teardown, to_list}
-use Rattle.frameworks.specs.Frameworks.{are_ordered, changed, without_stream}
-use Rattle.frameworks.proofs.Ordered.{put_changed}
-use Rattle.agent_sides.specs.Configs as configs
-use Rattle.agent_sides.specs.Joined.{side_names}
-use Rattle.agent_sides.specs.Looks.{next_command, value_of}
-use Rattle.agent_sides.specs.Own.{sides_with_tasks}
+use Rattle.cluster_model.specs.Masters.{AtSide, MasterEffect, Master, Move, Moved, TearDownAll, framework_of, has_numbers, is_of, move, move_all, refused, with_framework, withdraws}
+use Rattle.cluster_model.specs.Calls.{call_effect, on_teardown, to_list}
+use Rattle.master_state.specs.Frameworks.{are_ordered, changed, without_stream}
+use Rattle.master_state.proofs.Ordered.{put_changed}
+use Rattle.master_agents.specs.Configs as configs
+use Rattle.master_agents.specs.Joined.{side_names}
+use Rattle.master_agents.specs.Looks.{next_command, value_of}
+use Rattle.master_agents.specs.Own.{sides_with_tasks}
 use Rattle.master_state.specs.declared.state.State.{State}
 use Rattle.master_state.specs.States.{ordered, ordered_as}
 use Rattle.master_state.specs.Works.{Work, admission, done, master_of, registers_of, run_of, work_of}
@@ -89,7 +89,7 @@ closing framework stream w = record {
 abbrev ended_work : State → Moved → List Framework → List Numbered → Work
 ended_work s x fs closes = record { moved = x; registers = record (registers_of s) { frameworks = fs }; events = s.outs.events; opens = s.outs.opened; closes = s.outs.closed ++ closes }
 
-abbrev ending : Master → Framework → Doing
+abbrev ending : Master → Framework → MasterEffect
 ending m f = record {
   refusal = None;
   moves = withdraws (is_of f.id) m ++ TearDownAll f.id ∷ map (λ t. AtSide t.name (SendEnd f.id)) (sides_with_tasks f.id m.sides);
@@ -129,17 +129,17 @@ ended_so s f framework stream id open_stream known ordered_ids names =
 
 -- TEARDOWN
 
-abbrev tears : Master → Framework → Bool → Doing
+abbrev tears : Master → Framework → Bool → MasterEffect
 tears m f lacks = if lacks then refused m LimitExceeded else ending m f
 
 torn_is : (m : Master) (given : Option Numbered) (framework stream : Numbered) (lacks : Bool) → (a : Admitted m given framework stream) → lacks ≡ list_any (λ t. not (has_numbers 1 t)) (sides_with_tasks framework m.sides)
-    → tears m a.caller lacks ≡ called m given (calls.Teardown framework)
+    → tears m a.caller lacks ≡ call_effect m given (calls.Teardown framework)
 torn_is m given framework stream lacks a is =
     ap (tears m a.caller) (is ∙ ap (λ i. list_any (λ t. not (has_numbers 1 t)) (sides_with_tasks i m.sides)) (sym a.id)) ∙ sym (a.does (on_teardown m))
 
 pub tears_down : (s : State) (given : Option Numbered) (framework stream : Numbered) (lacks : Bool) → admission (master_of s) given framework ≡ Ok stream → are_ordered s.frameworks ≡ true → configs.are_ordered (side_names s.sides) ≡ true
     → lacks ≡ list_any (λ t. not (has_numbers 1 t)) (sides_with_tasks framework s.sides) → lacks ≡ false
-    → ((called (master_of s) given (calls.Teardown framework)).refusal ≡ None) × (work_of (ended framework stream s) ≡ done (called (master_of s) given (calls.Teardown framework)) (work_of s))
+    → ((call_effect (master_of s) given (calls.Teardown framework)).refusal ≡ None) × (work_of (ended framework stream s) ≡ done (call_effect (master_of s) given (calls.Teardown framework)) (work_of s))
 tears_down s given framework stream lacks e ordered_ids names is none =
     let a : Admitted (master_of s) given framework stream = admits (master_of s) given framework stream e in
     subst (λ d. (d.refusal ≡ None) × (work_of (ended framework stream s) ≡ done d (work_of s))) (ap (tears (master_of s) a.caller) (sym none) ∙ torn_is (master_of s) given framework stream lacks a is)
@@ -147,7 +147,7 @@ tears_down s given framework stream lacks e ordered_ids names is none =
 
 pub lacks_limit : (s : State) (given : Option Numbered) (framework stream : Numbered) (lacks : Bool) → admission (master_of s) given framework ≡ Ok stream
     → lacks ≡ list_any (λ t. not (has_numbers 1 t)) (sides_with_tasks framework s.sides) → lacks ≡ true
-    → ((called (master_of s) given (calls.Teardown framework)).refusal ≡ Some LimitExceeded) × (s ≡ s)
+    → ((call_effect (master_of s) given (calls.Teardown framework)).refusal ≡ Some LimitExceeded) × (s ≡ s)
 lacks_limit s given framework stream lacks e is some =
     let a : Admitted (master_of s) given framework stream = admits (master_of s) given framework stream e in
     (ap (λ d. d.refusal) (sym (ap (tears (master_of s) a.caller) (sym some) ∙ torn_is (master_of s) given framework stream lacks a is)), refl)

@@ -13,8 +13,8 @@ use Rattle.std.specs.FinMap.Entries.{by_order, put, find as value_at, is_sorted,
 use Rattle.names_core.specs.Ids.{Numbered, same}
 use Rattle.cluster_model.specs.Masters.{Placed}
 use Rattle.cluster_model.specs.Calls.{is_live_of}
-use Rattle.offer_rows.specs.Lists.{same_id}
-use Rattle.offer_rows.specs.Names.{is_among}
+use Rattle.offer_book.specs.Lists.{same_id}
+use Rattle.offer_book.specs.Names.{is_among}
 use Rattle.offer_tables.specs.Accounts.{has_key}
 use Rattle.offer_tables.specs.Held.{AreKeyed, is_framework_of, placed_of}
 use Rattle.master_calls.specs.Tasks.{HeldTask, held_task}

@@ -4,3 +4,9 @@ pub mod Ending
 pub mod Placing
 pub mod Reconciling
 pub mod Gathering
+pub mod Declining
+pub mod AcceptLemmas
+pub mod Launching
+pub mod Rooms
+pub mod NewKeys
+pub mod Accepted

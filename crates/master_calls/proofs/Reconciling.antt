@@ -6,14 +6,14 @@ use Rattle.std.proofs.lemmas.List.{append_assoc}
 use Rattle.names_core.specs.Ids.{Numbered}
 use Rattle.names_core.specs.declared.state.TaskState.{TaskState}
 use Rattle.names_core.specs.declared.state.TaskState.TheVariants.{Lost}
-use Rattle.mails.specs.declared.call.Call.TheVariants as calls
-use Rattle.mails.specs.declared.call.ReconciledTask.{ReconciledTask}
-use Rattle.mails.specs.declared.framework.Framework.{Framework}
+use Rattle.messages.specs.declared.call.Call.TheVariants as calls
+use Rattle.messages.specs.declared.call.ReconciledTask.{ReconciledTask}
+use Rattle.messages.specs.declared.framework.Framework.{Framework}
 use Rattle.cluster_model.specs.Events.{Event, update_event}
 use Rattle.cluster_model.specs.Masters.{Master, Placed, all_booked, held, on_stream, put_placed, saying}
-use Rattle.cluster_model.specs.Calls.{answers, answers_held, called, is_awaited, is_live_of, on_reconcile, reconciles, reconciles_as}
+use Rattle.cluster_model.specs.Calls.{answers, answers_held, call_effect, is_awaited, is_live_of, on_reconcile, reconciles, reconciles_as}
 use Rattle.master_state.specs.declared.state.State.{State}
-use Rattle.scheduler_events.specs.declared.stream_event.StreamEvent.{StreamEvent}
+use Rattle.messages.specs.declared.events.stream_event.StreamEvent.{StreamEvent}
 use Rattle.master_state.specs.States.{task_state_sent}
 use Rattle.master_state.specs.Works.{admission, done, master_of, work_of}
 use Rattle.master_state.proofs.Admissions.{Admitted, admits}
@@ -113,10 +113,10 @@ is_saying m f [] = refl
 is_saying m f (a ∷ asked) = refl
 
 pub reconciled_so : (s : State) (given : Option Numbered) (framework stream : Numbered) (asked : List ReconciledTask) → admission (master_of s) given framework ≡ Ok stream
-    → ((called (master_of s) given (calls.Reconcile framework asked)).refusal ≡ None) × (work_of (reconciled framework stream asked s) ≡ done (called (master_of s) given (calls.Reconcile framework asked)) (work_of s))
+    → ((call_effect (master_of s) given (calls.Reconcile framework asked)).refusal ≡ None) × (work_of (reconciled framework stream asked s) ≡ done (call_effect (master_of s) given (calls.Reconcile framework asked)) (work_of s))
 reconciled_so s given framework stream asked e =
     let a : Admitted (master_of s) given framework stream = admits (master_of s) given framework stream e in
-    let does : saying (master_of s) (events_of (master_of s) a.caller asked) ≡ called (master_of s) given (calls.Reconcile framework asked) = is_saying (master_of s) a.caller asked ∙ sym (a.does (on_reconcile (master_of s) asked)) in
+    let does : saying (master_of s) (events_of (master_of s) a.caller asked) ≡ call_effect (master_of s) given (calls.Reconcile framework asked) = is_saying (master_of s) a.caller asked ∙ sym (a.does (on_reconcile (master_of s) asked)) in
     let now : reconciled framework stream asked s ≡ telling s (events_of (master_of s) a.caller asked) = ap (λ i. reconciled i stream asked s) (sym a.id) ∙ events_to_all s stream a.caller asked a.stream_is in
     subst (λ d. (d.refusal ≡ None) × (work_of (reconciled framework stream asked s) ≡ done d (work_of s))) does
     (refl, ap work_of now ∙ says s (events_of (master_of s) a.caller asked))

@@ -1,15 +1,15 @@
 -- What SUBSCRIBE makes of what a master holds.
 use Rattle.std.proofs.Common.{◌≡◌, ℕ, suc, List, [], ◌∷◌, ◌++◌, map, Option, Some, None, option_map, refl, sym, ap, ◌∙◌, true}
 use Rattle.names_core.specs.Ids.{Numbered}
-use Rattle.mails.specs.declared.framework.Framework.{Framework}
+use Rattle.messages.specs.declared.framework.Framework.{Framework}
 use Rattle.cluster_model.specs.Events.{Subscribed, failover_error}
 use Rattle.cluster_model.specs.Masters.{Master, Moved, is_of, move_all, on_stream, with_framework, withdraws}
 use Rattle.cluster_model.specs.Calls.{new_stream, resubscribed, subscriber}
-use Rattle.agent_sides.specs.Configs.{are_ordered}
-use Rattle.agent_sides.specs.Joined.{side_names}
-use Rattle.agent_sides.specs.Looks.{withdrawing}
+use Rattle.master_agents.specs.Configs.{are_ordered}
+use Rattle.master_agents.specs.Joined.{side_names}
+use Rattle.master_agents.specs.Looks.{withdrawing}
 use Rattle.master_state.specs.declared.state.State.{State}
-use Rattle.scheduler_events.specs.declared.stream_event.StreamEvent.{StreamEvent}
+use Rattle.messages.specs.declared.events.stream_event.StreamEvent.{StreamEvent}
 use Rattle.master_state.specs.Works.{Work, done, master_of, registers_of, run_of, work_of}
 use Rattle.master_state.proofs.Doings.{none_more}
 use Rattle.master_state.proofs.Moves.{all_withdrawn, moved_so}

@@ -1,10 +1,10 @@
 -- A framework ends.
 use Rattle.std.specs.Prelude.{ℕ, List, [], ◌∷◌, ◌++◌, fold, map}
 use Rattle.names_core.specs.Ids.{Numbered}
-use Rattle.mails.specs.declared.mail.Command.TheVariants.{EndFramework}
+use Rattle.messages.specs.declared.mail.Command.TheVariants.{EndFramework}
 use Rattle.cluster_model.specs.Masters.{is_of}
-use Rattle.frameworks.specs.Frameworks.{changed, without_stream}
-use Rattle.agent_sides.specs.Own.{sides_with_tasks}
+use Rattle.master_state.specs.Frameworks.{changed, without_stream}
+use Rattle.master_agents.specs.Own.{sides_with_tasks}
 use Rattle.master_state.specs.declared.state.State.{State}
 use Rattle.master_state.specs.States.{closed, ordered, without_offers}
 

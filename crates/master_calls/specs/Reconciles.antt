@@ -6,10 +6,10 @@ use Rattle.std.specs.BTreeMap.{insert_entry}
 use Rattle.std.specs.Map.{values_of}
 use Rattle.names_core.specs.Ids.{Numbered}
 use Rattle.names_core.specs.declared.state.TaskState.TheVariants.{Lost}
-use Rattle.mails.specs.declared.call.ReconciledTask.{ReconciledTask}
+use Rattle.messages.specs.declared.call.ReconciledTask.{ReconciledTask}
 use Rattle.cluster_model.specs.Masters.{Placed, held}
 use Rattle.cluster_model.specs.Calls.{is_awaited, is_live_of}
-use Rattle.agent_sides.specs.Looks.{all_placed}
+use Rattle.master_agents.specs.Looks.{all_placed}
 use Rattle.master_state.specs.declared.state.State.{State}
 use Rattle.master_state.specs.States.{task_state_sent}
 use Rattle.master_state.specs.Works.{master_of}

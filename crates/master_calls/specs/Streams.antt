@@ -1,16 +1,16 @@
 -- Streams that open and close.
 use Rattle.std.specs.Prelude.{ℕ, suc, nat_le, if◌then◌else◌, length, List, [], ◌∷◌, ◌++◌, Option, Some, None}
 use Rattle.names_core.specs.Ids.{Numbered}
-use Rattle.mails.specs.declared.refusal.MasterRefusal.TheVariants.{LimitExceeded}
+use Rattle.messages.specs.declared.refusal.MasterRefusal.TheVariants.{LimitExceeded}
 use Rattle.cluster_model.specs.Events.{Subscribed, failover_error}
-use Rattle.cluster_model.specs.Masters.{Doing, Master, Registers, is_of, on_stream, put_framework, refused, with_framework, withdraws}
+use Rattle.cluster_model.specs.Masters.{MasterEffect, Master, Registers, is_of, on_stream, put_framework, refused, with_framework, withdraws}
 use Rattle.cluster_model.specs.Calls.{frameworks_limit, new_stream, subscriber, to_list}
-use Rattle.frameworks.specs.Frameworks as frameworks
+use Rattle.master_state.specs.Frameworks as frameworks
 use Rattle.master_state.specs.States as states
 use Rattle.master_state.specs.declared.state.State.{State}
 
 -- a framework is subscribed on a new stream; an open one of it closes, and its offers are withdrawn
-abbrev pub subscribed_on : Master → Registers → Numbered → List ℕ → Option Numbered → Doing
+abbrev pub subscribed_on : Master → Registers → Numbered → List ℕ → Option Numbered → MasterEffect
 subscribed_on m r id role known = record {
   refusal = None;
   moves = withdraws (is_of id) m;
@@ -21,7 +21,7 @@ subscribed_on m r id role known = record {
 }
 
 -- a framework subscribes with its id: its open stream, if it is known
-abbrev pub resubscribed_as : Master → Numbered → List ℕ → Option (Option Numbered) → Doing
+abbrev pub resubscribed_as : Master → Numbered → List ℕ → Option (Option Numbered) → MasterEffect
 resubscribed_as m id role None =
     if nat_le frameworks_limit (length m.registers.frameworks) then refused m LimitExceeded
     else subscribed_on m m.registers id role None

@@ -1,19 +1,19 @@
 //! KILL and ACKNOWLEDGE.
 
 ghost use Rattle.std.specs.Prelude.{◌≡◌, ◌||◌, true, IfOk, IfSome, option_map};
-ghost use Rattle.mails.specs.declared.call.Call.TheVariants as calls;
+ghost use Rattle.messages.specs.declared.call.Call.TheVariants as calls;
 ghost use Rattle.cluster_model.specs.Sides.{SendAck, SendKill};
 ghost use Rattle.cluster_model.specs.Masters.{AtSide, held, may_have_numbers, side_of};
-ghost use Rattle.cluster_model.specs.Calls.{called, commanding};
+ghost use Rattle.cluster_model.specs.Calls.{call_effect, commanding};
 ghost use Rattle.master_state.specs.Works.{Gave, master_of};
 ghost use Rattle.offer_tables.specs.Found.{place};
 ghost use Rattle.master_calls.specs.Tasks.{held_task, kill_limit, kills};
 
-use mails::{Booked, Command, MasterRefusal};
 use master_state::{MasterFault, State};
+use messages::{Booked, Command, MasterRefusal};
 use names_core::{AgentName, FrameworkId, LaunchKey, StreamId, TaskName, TaskState, UpdateId};
-use plain_data::Plain;
 use std::alloc::{AllocError, Global};
+use values::Plain;
 
 /// What is sent of a booked task.
 #[derive(Drop)]
@@ -150,7 +150,7 @@ pub fn kill(
     agent: Option<AgentName>,
 ) -> Result<(), MasterFault>
     ensures { Gave result state.old state.new
-        (called (master_of state.old) given (calls.Kill framework task agent)) }
+        (call_effect (master_of state.old) given (calls.Kill framework task agent)) }
 {
     let stream = match state.admit(given, framework) {
         Ok(stream) => stream,
@@ -180,7 +180,7 @@ pub fn acknowledge(
     update: UpdateId,
 ) -> Result<(), MasterFault>
     ensures { Gave result state.old state.new
-        (called (master_of state.old) given
+        (call_effect (master_of state.old) given
         (calls.Acknowledge framework agent.now task.now update)) }
 {
     let _stream = match state.admit(given, framework) {

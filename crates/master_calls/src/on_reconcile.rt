@@ -2,23 +2,23 @@
 
 ghost use Rattle.std.specs.Prelude.{◌≡◌, ◌&&◌, not, IfOk, OnOk, fold};
 ghost use Rattle.std.specs.BTreeMap.{values};
-ghost use Rattle.mails.specs.declared.call.Call.TheVariants as calls;
+ghost use Rattle.messages.specs.declared.call.Call.TheVariants as calls;
 ghost use Rattle.names_core.specs.Ids.{same};
-ghost use Rattle.cluster_model.specs.Calls.{called, is_awaited};
+ghost use Rattle.cluster_model.specs.Calls.{call_effect, is_awaited};
 ghost use Rattle.offer_tables.specs.Found.{place};
 ghost use Rattle.offer_tables.specs.Held.{placed_of};
-ghost use Rattle.agent_sides.specs.Looks.{all_placed};
+ghost use Rattle.master_agents.specs.Looks.{all_placed};
 ghost use Rattle.master_state.specs.Works.{Gave, master_of};
 ghost use Rattle.master_calls.specs.Reconciles.{gathers, gathers_found, live_by_key, reconciled, reconciled_as, reconciled_one, sends_held};
 
 use crate::on_kill::{HeldTask, copy_held, held_of};
-use agent_sides::Sides;
-use mails::{Booked, ReconciledTask};
+use master_agents::Sides;
 use master_state::{MasterFault, State};
+use messages::{Booked, ReconciledTask};
 use names_core::{AgentName, FrameworkId, LaunchKey, StreamId, TaskState};
-use plain_data::Plain;
 use std::alloc::{AllocError, Global};
 use std::collections::BTreeMap;
+use values::Plain;
 
 /// Whether an agent that may have a task hasn't opened a session in this run.
 fn is_awaited(state: &State, agent: &Option<AgentName>) -> bool
@@ -188,7 +188,7 @@ pub fn reconcile(
     tasks: &[ReconciledTask],
 ) -> Result<(), MasterFault>
     ensures { Gave result state.old state.new
-        (called (master_of state.old) given (calls.Reconcile framework tasks.now)) }
+        (call_effect (master_of state.old) given (calls.Reconcile framework tasks.now)) }
 {
     let stream = match state.admit(given, framework) {
         Ok(stream) => stream,

@@ -1,8 +1,8 @@
 //! REVIVE and SUPPRESS.
 
 ghost use Rattle.std.specs.Prelude.{◌≡◌};
-ghost use Rattle.mails.specs.declared.call.Call.TheVariants as calls;
-ghost use Rattle.cluster_model.specs.Calls.{called};
+ghost use Rattle.messages.specs.declared.call.Call.TheVariants as calls;
+ghost use Rattle.cluster_model.specs.Calls.{call_effect};
 ghost use Rattle.master_state.specs.Works.{Gave, master_of};
 
 use master_state::{MasterFault, State};
@@ -18,7 +18,7 @@ pub fn revive(
     framework: FrameworkId,
 ) -> Result<(), MasterFault>
     ensures { Gave result state.old state.new
-        (called (master_of state.old) given (calls.Revive framework)) }
+        (call_effect (master_of state.old) given (calls.Revive framework)) }
 {
     let _stream = match state.admit(given, framework) {
         Ok(stream) => stream,
@@ -37,7 +37,7 @@ pub fn suppress(
     framework: FrameworkId,
 ) -> Result<(), MasterFault>
     ensures { Gave result state.old state.new
-        (called (master_of state.old) given (calls.Suppress framework)) }
+        (call_effect (master_of state.old) given (calls.Suppress framework)) }
 {
     let _stream = match state.admit(given, framework) {
         Ok(stream) => stream,

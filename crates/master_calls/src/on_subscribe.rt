@@ -1,16 +1,15 @@
 //! SUBSCRIBE.
 
 ghost use Rattle.std.specs.Prelude.{◌≡◌, ◌<◌, OnOk, length, nat_le};
-ghost use Rattle.mails.specs.declared.call.Call.TheVariants as calls;
+ghost use Rattle.messages.specs.declared.call.Call.TheVariants as calls;
 ghost use Rattle.cluster_model.specs.Ids.{last_number};
-ghost use Rattle.cluster_model.specs.Calls.{called, frameworks_limit, is_unassigned, on_resubscribe, on_subscribe, removed};
+ghost use Rattle.cluster_model.specs.Calls.{call_effect, frameworks_limit, is_unassigned, on_resubscribe, on_subscribe, removed};
 ghost use Rattle.master_state.specs.Works.{Gave, done, master_of, registers_of, work_of};
 ghost use Rattle.master_calls.specs.Streams.{entered, failed_over, left, resubscribed_as, subscribed_on};
 
-use mails::MasterRefusal;
 use master_state::{MasterFault, State};
+use messages::{Event, MasterRefusal, Message};
 use names_core::{FrameworkId, RoleName, StreamId};
-use scheduler_events::{Event, Message};
 use std::alloc::{AllocError, Global};
 
 /// As many frameworks as may be known in one run.
@@ -175,7 +174,7 @@ pub fn subscribe(
     role: RoleName,
 ) -> Result<(), MasterFault>
     ensures { Gave result state.old state.new
-        (called (master_of state.old) given (calls.Subscribe framework role)) }
+        (call_effect (master_of state.old) given (calls.Subscribe framework role)) }
 {
     match framework {
         None => subscribe_new(state, alloc, role),

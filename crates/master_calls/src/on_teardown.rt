@@ -1,13 +1,13 @@
 //! TEARDOWN.
 
 ghost use Rattle.std.specs.Prelude.{◌≡◌, fold, OnOk};
-ghost use Rattle.mails.specs.declared.call.Call.TheVariants as calls;
-ghost use Rattle.cluster_model.specs.Calls.{called};
+ghost use Rattle.messages.specs.declared.call.Call.TheVariants as calls;
+ghost use Rattle.cluster_model.specs.Calls.{call_effect};
 ghost use Rattle.master_state.specs.Works.{Gave, master_of};
 ghost use Rattle.master_calls.specs.Ends.{ended, ends_on};
 
-use mails::{Command, MasterRefusal};
 use master_state::{MasterFault, State};
+use messages::{Command, MasterRefusal};
 use names_core::{AgentName, FrameworkId, StreamId};
 use std::alloc::{AllocError, Global};
 
@@ -55,7 +55,7 @@ pub fn teardown(
     framework: FrameworkId,
 ) -> Result<(), MasterFault>
     ensures { Gave result state.old state.new
-        (called (master_of state.old) given (calls.Teardown framework)) }
+        (call_effect (master_of state.old) given (calls.Teardown framework)) }
 {
     let stream = match state.admit(given, framework) {
         Ok(stream) => stream,

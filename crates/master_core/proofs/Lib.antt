@@ -1,3 +1,11 @@
 pub mod Losing
 pub mod Starting
 pub mod Opening
+pub mod Ending
+pub mod Finding
+pub mod Hanging
+pub mod Ticking
+pub mod Naming
+pub mod MailingLosing
+pub mod MailLemmas
+pub mod Reporting

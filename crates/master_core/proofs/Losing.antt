@@ -2,18 +2,18 @@
 use Rattle.std.proofs.Common.{◌≡◌, ℕ, Bool, true, false, List, [], ◌∷◌, None, refl, bytes_eq}
 use Rattle.std.specs.Prelude.{if◌then◌else◌}
 use Rattle.cluster_model.specs.Sides.{Side}
-use Rattle.cluster_model.specs.Masters.{Doing, Master, nothing}
+use Rattle.cluster_model.specs.Masters.{MasterEffect, Master, nothing}
 use Rattle.cluster_model.specs.Mails.{agent_lost}
-use Rattle.agent_sides.specs.Looks.{value_of}
-use Rattle.agent_sides.specs.Named.{lost_by}
+use Rattle.master_agents.specs.Looks.{value_of}
+use Rattle.master_agents.specs.Named.{lost_by}
 
-abbrev NotRefused : Doing → Type 0
+abbrev NotRefused : MasterEffect → Type 0
 NotRefused d = d.refusal ≡ None
 
 lost_so : (m : Master) (s : Side) → NotRefused (agent_lost m s)
 lost_so m s = by s.is_open _ _ refl refl
   where
-    by : (b : Bool) (d e : Doing) → NotRefused d → NotRefused e → NotRefused (if b then d else e)
+    by : (b : Bool) (d e : MasterEffect) → NotRefused d → NotRefused e → NotRefused (if b then d else e)
     by true d e h k = h
     by false d e h k = k
 

@@ -4,16 +4,16 @@ use Rattle.std.specs.List.{AllByRecursion}
 use Rattle.cluster_model.specs.Sides.{Side, SendHello}
 use Rattle.cluster_model.specs.Masters.{AtSide, Move, Moved, move_all, moved}
 use Rattle.cluster_model.specs.Mails.{ticks}
-use Rattle.agent_sides.specs.declared.config.ConfiguredAgent.{ConfiguredAgent}
-use Rattle.agent_sides.specs.Changes.{side_of}
-use Rattle.agent_sides.specs.Configs.{are_ordered, most_agents}
-use Rattle.agent_sides.specs.Joined.{side_names}
-use Rattle.agent_sides.specs.ByName.{mails_at_tick}
+use Rattle.master_agents.specs.declared.config.ConfiguredAgent.{ConfiguredAgent}
+use Rattle.master_agents.specs.Changes.{side_of}
+use Rattle.master_agents.specs.Configs.{are_ordered, most_agents}
+use Rattle.master_agents.specs.Joined.{side_names}
+use Rattle.master_agents.specs.ByName.{mails_at_tick}
 use Rattle.master_state.specs.States.{fresh}
 use Rattle.master_state.specs.Works.{master_of, run_of}
 use Rattle.master_state.proofs.Moves.{moved_so}
-use Rattle.master_mails.proofs.Ticking.{all_ticked}
-use Rattle.side_fits.specs.Fits.{AllFitTotals, OffersBefore, SidesFit}
+use Rattle.master_core.proofs.Ticking.{all_ticked}
+use Rattle.cluster_model.specs.Fits.{AllFitTotals, BookedBefore, OffersBefore, SidesFit}
 
 totals_fit : (agents : List ConfiguredAgent) → AllFitTotals (map side_of agents)
 totals_fit [] = tt
@@ -23,6 +23,10 @@ no_offers : (run : ℕ) (agents : List ConfiguredAgent) → AllByRecursion (Offe
 no_offers run [] = tt
 no_offers run (a ∷ agents) = (tt, no_offers run agents)
 
+no_tasks : (run : ℕ) (agents : List ConfiguredAgent) → AllByRecursion (BookedBefore (record { run = run; n = 1 })) (map side_of agents)
+no_tasks run [] = tt
+no_tasks run (a ∷ agents) = (tt, no_tasks run agents)
+
 as_many : (agents : List ConfiguredAgent) → length (map side_of agents) ≡ length agents
 as_many [] = refl
 as_many (a ∷ agents) = ap suc (as_many agents)
@@ -31,6 +35,7 @@ pub fresh_fits : (run : ℕ) (agents : List ConfiguredAgent) → length agents �
 fresh_fits run agents few = record {
   totals = totals_fit agents;
   ids = no_offers run agents;
+  keys = no_tasks run agents;
   numbered = omega arith;
   few = subst (λ n. n ≤ 256) (sym (as_many agents)) few;
 }

@@ -3,26 +3,26 @@ use Rattle.std.specs.declared.alloc.AllocError.{AllocError}
 use Rattle.std.specs.Prelude.{◌≡◌, ⊤, ℕ, Bool, false, List, [], map, Option, Some, None, Result, Ok, Err}
 use Rattle.std.specs.List.{list_any}
 use Rattle.names_core.specs.Ids.{Numbered}
-use Rattle.mails.specs.declared.mail.AgentMail.{AgentMail}
+use Rattle.messages.specs.declared.mail.AgentMail.{AgentMail}
 use Rattle.quantity.specs.declared.rows.Row.{Row}
 use Rattle.quantity.specs.Rows.{plus_rows}
 use Rattle.cluster_model.specs.Sides.{SendHello, offer_rows}
-use Rattle.cluster_model.specs.Masters.{AtSide, Doing, Master, after_doing, moved, moving}
+use Rattle.cluster_model.specs.Masters.{AtSide, MasterEffect, Master, after_doing, moved, moving}
 use Rattle.cluster_model.specs.Calls.{is_stream}
 use Rattle.cluster_model.specs.Mails.{having_received}
-use Rattle.agent_sides.specs.Looks.{value_of}
+use Rattle.master_agents.specs.Looks.{value_of}
 use Rattle.master_state.specs.declared.fault.MasterFault.{MasterFault}
 use Rattle.master_state.specs.declared.fault.MasterFault.TheVariants.{OutOfMemory, Refused}
 use Rattle.master_state.specs.declared.state.Outs.{Outs}
 use Rattle.master_state.specs.declared.state.State.{State}
 use Rattle.master_state.specs.States.{cleared, no_outs}
 use Rattle.master_state.specs.Works.{run_of}
-use Rattle.agent_sides.specs.Named.{mailed_by}
-use Rattle.side_fits.specs.Fits.{SidesFit}
+use Rattle.master_agents.specs.Named.{mailed_by}
+use Rattle.cluster_model.specs.Fits.{SidesFit}
 pub use Rattle.master_core.specs.declared.master.ReceivedMail.{ReceivedMail}
 
 -- the outputs of a step
-abbrev pub outs_of : Master → Doing → Outs
+abbrev pub outs_of : Master → MasterEffect → Outs
 outs_of m d =
     record {
       events = d.events;
@@ -34,7 +34,7 @@ outs_of m d =
 -- A step of a master that is up was done, or it was refused and nothing changed.
 -- Where memory was refused, which it is only in a step that isn't refused, the master is down: it
 -- answers so for ever.
-abbrev pub Answers : Result Outs MasterFault → Option Master → Option Master → (Master → Doing)
+abbrev pub Answers : Result Outs MasterFault → Option Master → Option Master → (Master → MasterEffect)
     → Type 0
 Answers (Ok outs) None after doing = ⊥
 Answers (Ok outs) (Some m) after doing =
@@ -58,7 +58,7 @@ Receives (Err OutOfMemory) before after agent mail = after ≡ None
 Receives (Err (Refused refusal)) before after agent mail = ⊥
 
 -- a Hello to every agent
-abbrev pub greeting : Master → Doing
+abbrev pub greeting : Master → MasterEffect
 greeting m = moving m (map (λ s. AtSide s.name SendHello) m.sides)
 
 -- the sum of an agent's current offers

@@ -1,13 +1,15 @@
 //! The answer to a call.
 
 ghost use Rattle.std.specs.Prelude.{◌≡◌};
-ghost use Rattle.cluster_model.specs.Calls.{called};
-ghost use Rattle.master_state.specs.Works.{Gave, master_of};
+ghost use Rattle.cluster_model.specs.Calls.{call_effect};
+ghost use Rattle.cluster_model.specs.Fits.{SidesFit};
+ghost use Rattle.master_state.specs.Works.{Gave, master_of, run_of};
 
-use mails::Call;
-use master_accept::{accept, decline};
-use master_calls::{acknowledge, kill, reconcile, revive, subscribe, suppress, teardown};
+use master_calls::{
+    accept, acknowledge, decline, kill, reconcile, revive, subscribe, suppress, teardown,
+};
 use master_state::{MasterFault, State};
+use messages::Call;
 use names_core::StreamId;
 use std::alloc::Global;
 
@@ -18,7 +20,8 @@ pub fn answer(
     given: Option<StreamId>,
     call: Call,
 ) -> Result<(), MasterFault>
-    ensures { Gave result state.old state.new (called (master_of state.old) given call) }
+    requires { SidesFit (run_of state.old) state.old.sides }
+    ensures { Gave result state.old state.new (call_effect (master_of state.old) given call) }
 {
     match call {
         Call::Subscribe { framework, role } => subscribe(state, alloc, given, framework, role),

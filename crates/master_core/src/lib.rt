@@ -3,10 +3,12 @@
 #![tactic(auto)]
 
 mod answer;
+mod mailing;
 mod master;
 mod offered;
 mod settle;
 
-pub use agent_sides::{ConfigFault, ConfiguredAgents};
+pub use mailing::{an_end_that_is_received_frees, hang_up, lose_agent, mail, tick};
 pub use master::{Master, ReceivedMail};
+pub use master_agents::{ConfigFault, ConfiguredAgents};
 pub use master_state::{MasterFault, Outs};

@@ -1,29 +1,28 @@
 //! Masters.
 
 ghost use Rattle.std.specs.Prelude.{◌≡◌, Some, None, IfOk, IfErr, IfSome, option_and_then, option_map};
-ghost use Rattle.cluster_model.specs.Calls.{called};
+ghost use Rattle.cluster_model.specs.Calls.{call_effect};
 ghost use Rattle.cluster_model.specs.Masters.{framework_of, stream_of};
 ghost use Rattle.cluster_model.specs.Mails.{hung_up, ticked};
 ghost use Rattle.cluster_model.specs.Rounds.{allocated};
 ghost use Rattle.master_state.specs.States.{fresh};
 ghost use Rattle.master_state.specs.Works.{Gave, master_of};
-ghost use Rattle.agent_sides.specs.Named.{lost_by};
+ghost use Rattle.master_agents.specs.Named.{lost_by};
 ghost use Rattle.cluster_model.specs.Mails.{FitsRecord};
-ghost use Rattle.side_fits.specs.Fits.{MailFitsAt};
+ghost use Rattle.cluster_model.specs.Fits.{MailFitsAt};
 ghost use Rattle.master_core.specs.Steps.{Answers, Receives, greeting, is_open, of_memory, offered_on, outs_of};
 
 use crate::answer::answer;
+use crate::mailing::{hang_up, lose_agent, mail as receive, tick};
 use crate::offered::sum_of;
 use crate::settle::settle;
-use agent_sides::{ConfiguredAgents, Sides};
-use mails::{AgentMail, Call, MasterRefusal};
-use master_mails::{hang_up, lose_agent, mail as receive, tick};
+use cluster_model::{moves_keep_fits, receiving_keeps_fits};
+use master_agents::{ConfiguredAgents, Sides};
 use master_rounds::allocate;
 use master_state::{MasterFault, Outs, State};
-use names_core::{AgentName, FrameworkId, Run, StreamId};
+use messages::{AgentMail, Call, MasterRefusal};
+use names_core::{AgentName, FrameworkId, Run, StreamId, Weights};
 use quantity::Resources;
-use role_weights::Weights;
-use side_fits::{moves_keep_fits, receiving_keeps_fits};
 use std::alloc::{AllocError, Global};
 use std::marker::Model;
 
@@ -149,7 +148,7 @@ impl Master {
         given: Option<StreamId>,
         call: Call,
     ) -> Result<Outs, MasterFault>
-        ensures { Answers result self.old self.new (λ m. called m given call) }
+        ensures { Answers result self.old self.new (λ m. call_effect m given call) }
     {
         moves_keep_fits();
         let Some(state) = &mut self.state else {
@@ -216,8 +215,9 @@ impl Master {
     /// configured. `M5 OutOfMemory` leaves the master down.
     ///
     /// The caller owes that an update has a number that an agent's record has room for, and that
-    /// the tasks of a Report can be booked on the agent: their launch keys rise, none has the key of
-    /// a task that is booked on another agent, and those that haven't ended fit the reported total.
+    /// the tasks of a Report can be booked on the agent: their launch keys rise and were assigned
+    /// before, none has the key of a task that is booked on another agent, and those that haven't
+    /// ended fit the reported total.
     pub fn mail(
         &mut self,
         alloc: Global,
@@ -225,7 +225,7 @@ impl Master {
         mail: AgentMail,
     ) -> Result<ReceivedMail, MasterFault>
         requires number { FitsRecord mail }
-        requires fits { IfSome self.old (λ m. MailFitsAt agent.now mail m.sides) }
+        requires fits { IfSome self.old (λ m. MailFitsAt m.run agent.now mail m.sides) }
         ensures { Receives result self.old self.new agent.now mail }
     {
         receiving_keeps_fits();

@@ -4,7 +4,7 @@ ghost use Rattle.std.specs.Prelude.{◌≡◌, [], IfOk, OnOk};
 ghost use Rattle.quantity.specs.Rows.{plus_rows};
 ghost use Rattle.cluster_model.specs.Sides.{offer_rows};
 
-use agent_sides::OffersAt;
+use master_agents::OffersAt;
 use quantity::Resources;
 use std::alloc::{AllocError, Global};
 

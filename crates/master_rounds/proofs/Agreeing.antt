@@ -9,27 +9,27 @@ use Rattle.cluster_model.specs.Sides.{Side}
 use Rattle.cluster_model.specs.Events.{MadeOffer, offer_of}
 use Rattle.cluster_model.specs.Masters.{Master}
 use Rattle.cluster_model.specs.Rounds as rounds
-use Rattle.role_weights.specs.Weights.{RoleWeight}
+use Rattle.names_core.specs.Weights.{RoleWeight}
 use Rattle.cluster_model.specs.Rounds.{Client, Round, clients_of, free, pick, totals_of}
-use Rattle.frameworks.specs.Frameworks.{are_ordered}
+use Rattle.master_state.specs.Frameworks.{are_ordered}
 use Rattle.drf_pick.specs.declared.holder.Holder.{Holder}
 use Rattle.drf_pick.specs.declared.holder.RoleSum.{RoleSum}
 use Rattle.drf_pick.specs.Shares.{AreWeighed, CanHold, Tally, given_roles, is_holder, role_holding}
 use Rattle.drf_pick.proofs.Weights.{changed_weighed}
 use Rattle.drf_pick.proofs.HeldRows.{can_hold}
 use Rattle.roster.specs.Places.{value_at}
-use Rattle.agent_sides.specs.Free.{open_part}
-use Rattle.side_fits.specs.Fits.{AllFitTotals, most_sides}
+use Rattle.master_agents.specs.Free.{open_part}
+use Rattle.cluster_model.specs.Fits.{AllFitTotals, most_sides}
 use Rattle.drf_pick.specs.declared.holder.Client as drf
 use Rattle.drf_pick.specs.Allocations.{allocated}
 use Rattle.drf_pick.specs.Shown.{TallyShows}
 use Rattle.drf_pick.proofs.Shown.{tally_more, weights_stay}
-use Rattle.frameworks.specs.LastRound as frameworks
-use Rattle.round_shares.specs.Allocations.{ShowRound, allocations_of, allocations_with, made_allocation}
-use Rattle.round_shares.proofs.Registered.{clients_once}
-use Rattle.round_shares.specs.Laws.{CanBeSummed}
-use Rattle.round_shares.specs.Picks.{picked}
-use Rattle.round_shares.proofs.Picking.{picks_alike}
+use Rattle.master_state.specs.LastRound as frameworks
+use Rattle.master_rounds.specs.Allocations.{ShowRound, allocations_of, allocations_with, made_allocation}
+use Rattle.master_rounds.proofs.Registered.{clients_once}
+use Rattle.master_rounds.specs.Laws.{CanBeSummed}
+use Rattle.master_rounds.specs.Picks.{picked}
+use Rattle.master_rounds.proofs.Picking.{picks_alike}
 use Rattle.master_rounds.specs.Visits.{HasRoom, Progress, goes_to, offers_free, visits, visits_part}
 use Rattle.master_rounds.proofs.Bounds.{HaveRows, Within, can_be_summed, free_adds_up, visited, within_next}
 

@@ -9,21 +9,21 @@ use Rattle.quantity.specs.Merging.{count_below, rows_from}
 use Rattle.quantity.proofs.Amounts.{amount-append}
 use Rattle.quantity.proofs.Rests.{rests_are_less}
 use Rattle.quantity.proofs.Walks.{all_drop, front_is, front_small}
-use Rattle.mails.specs.declared.task.Job.{Job}
-use Rattle.mails.specs.declared.task.Offer.{Offer}
-use Rattle.role_weights.specs.Weights.{RoleWeight}
+use Rattle.messages.specs.declared.task.Job.{Job}
+use Rattle.messages.specs.declared.task.Offer.{Offer}
+use Rattle.names_core.specs.Weights.{RoleWeight}
 use Rattle.cluster_model.specs.Ids.{following, last_number}
 use Rattle.cluster_model.specs.Sides.{Side, job_rows, offer_rows, taken, unended}
 use Rattle.cluster_model.specs.Events.{MadeOffer}
 use Rattle.cluster_model.specs.Masters.{Master}
 use Rattle.cluster_model.specs.Rounds.{Client, Round, free, offers_free, offers_to, pick, visits}
-use Rattle.frameworks.specs.Frameworks.{are_ordered}
-use Rattle.side_fits.specs.Fits.{AllFitTotals, most_sides}
+use Rattle.master_state.specs.Frameworks.{are_ordered}
+use Rattle.cluster_model.specs.Fits.{AllFitTotals, most_sides}
 use Rattle.drf_pick.specs.Allocations.{AddUp, all_rows}
-use Rattle.round_shares.specs.Allocations.{allocations_of, allocations_with, job_allocation, made_allocation, offer_allocation, side_allocations}
-use Rattle.round_shares.specs.Laws.{CanBeSummed}
-use Rattle.round_shares.specs.Owned.{totals_in}
-use Rattle.round_shares.proofs.Owning.{totals_alike}
+use Rattle.master_rounds.specs.Allocations.{allocations_of, allocations_with, job_allocation, made_allocation, offer_allocation, side_allocations}
+use Rattle.master_rounds.specs.Laws.{CanBeSummed}
+use Rattle.master_rounds.specs.Owned.{totals_in}
+use Rattle.master_rounds.proofs.Owning.{totals_alike}
 use Rattle.drf_pick.proofs.AllocationRows.{all-append}
 
 abbrev pub HaveRows : List Side → Type 0

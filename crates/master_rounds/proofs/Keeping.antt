@@ -3,8 +3,8 @@ use Rattle.std.proofs.Common.{◌≡◌, List, [], ◌∷◌, ◌++◌, map, ref
 use Rattle.quantity.specs.Rows.{amount}
 use Rattle.quantity.specs.Laws.{SameAmounts}
 use Rattle.quantity.proofs.Amounts.{amount-append}
-use Rattle.mails.specs.declared.framework.Framework.{Framework}
-use Rattle.role_weights.specs.Weights.{RoleWeight}
+use Rattle.messages.specs.declared.framework.Framework.{Framework}
+use Rattle.names_core.specs.Weights.{RoleWeight}
 use Rattle.cluster_model.specs.Events.{MadeOffer, offer_of}
 use Rattle.drf_pick.specs.Shares.{Tally}
 use Rattle.drf_pick.specs.declared.counted.Allocation.{Allocation}
@@ -14,8 +14,8 @@ use Rattle.drf_pick.specs.Shown.{SameAllocations, TallyShows, all_found, all_own
 use Rattle.drf_pick.proofs.AllocationRows.{to-append}
 use Rattle.drf_pick.proofs.Counting.{counted_all}
 use Rattle.drf_pick.proofs.Less.{tally_alike}
-use Rattle.frameworks.specs.LastRound.{clients_of}
-use Rattle.round_shares.specs.Allocations.{BeginRound, ShowRound, allocations_of, allocations_with, made_allocation}
+use Rattle.master_state.specs.LastRound.{clients_of}
+use Rattle.master_rounds.specs.Allocations.{BeginRound, ShowRound, allocations_of, allocations_with, made_allocation}
 use Rattle.master_state.specs.declared.state.State.{State}
 use Rattle.master_rounds.specs.Visits.{Progress, allocation_by, round_with}
 use Rattle.master_state.specs.Works.{master_of}

@@ -7,3 +7,13 @@ pub mod Starting
 pub mod Keeping
 pub mod Places
 pub mod RoundList
+pub mod AtPlaces
+pub mod Registered
+pub mod SameAmounts
+pub mod Finding
+pub mod Owning
+pub mod Picking
+pub mod FirstFound
+pub mod Weighing
+pub mod EligiblePicks
+pub mod Serving

@@ -1,5 +1,5 @@
 -- All offers of a round are made at their agents.
-use Rattle.std.proofs.Common.{◌≡◌, ℕ, ◌≤◌, true, false, cond, List, [], ◌∷◌, ◌++◌, map, drop, fold, length, refl, sym, ap, ◌∙◌, arith, inl, inr, bytes_eq, append_assoc, append-nil}
+use Rattle.std.proofs.Common.{◌≡◌, ℕ, zero, suc, ◌≤◌, ◌<◌, true, false, cond, List, [], ◌∷◌, ◌++◌, map, drop, take, fold, get_or, length, refl, sym, subst, ap, ◌∙◌, arith, inl, inr, bytes_eq, append_assoc, append-nil}
 use Rattle.std.specs.List.{AllByRecursion, list_all, list_any}
 use Rattle.std.proofs.lemmas.Bool.Decides.{nat_tests}
 use Rattle.names_core.specs.Ids.{Numbered, before, same}
@@ -7,24 +7,26 @@ use Rattle.quantity.specs.declared.rows.Row.{Row}
 use Rattle.quantity.specs.Rows.{AreRows, covers}
 use Rattle.quantity.proofs.Amounts.{amount-append, covers_is_at_least}
 use Rattle.quantity.proofs.Rests.{rests_are_less}
-use Rattle.mails.specs.declared.task.Offer.{Offer}
-use Rattle.mails.specs.declared.mail.ToAgent.{ToAgent}
+use Rattle.messages.specs.declared.task.Offer.{Offer}
+use Rattle.messages.specs.declared.events.offer.SentOffer as json_offer
+use Rattle.messages.specs.declared.mail.ToAgent.{ToAgent}
 use Rattle.cluster_model.specs.Ids.{bytes_before, following}
 use Rattle.cluster_model.specs.Sides.{MakeOffer, Run, Side, may_offer, offered, sends_nothing, taken}
 use Rattle.cluster_model.specs.Events.{MadeOffer, offer_of}
 use Rattle.cluster_model.specs.Masters.{AtSide, Move, Moved, at_side, at_this_side, move, move_all, past_side, sending_more}
-use Rattle.role_weights.specs.Weights.{RoleWeight}
+use Rattle.names_core.specs.Weights.{RoleWeight}
 use Rattle.cluster_model.specs.Rounds.{Client, Round, entered, free, visits}
-use Rattle.agent_sides.specs.Changes.{offering}
-use Rattle.agent_sides.specs.Configs.{are_ordered}
-use Rattle.agent_sides.specs.Joined.{side_names}
-use Rattle.agent_sides.specs.Looks.{at_name}
-use Rattle.side_fits.specs.Fits.{AllFitTotals, FitsTotal, OffersBefore}
-use Rattle.side_fits.proofs.Numbering.{Goes, sides_later}
+use Rattle.master_agents.specs.Changes.{offering}
+use Rattle.master_agents.specs.Configs.{are_ordered}
+use Rattle.master_agents.specs.Joined.{side_names}
+use Rattle.master_agents.specs.Looks.{at_name}
+use Rattle.master_agents.specs.Taking.{fits, is_offered}
+use Rattle.cluster_model.specs.Fits.{AllFitTotals, FitsTotal, OffersBefore}
+use Rattle.cluster_model.proofs.Numbering.{Goes, sides_later}
 use Rattle.drf_pick.proofs.AllocationRows.{same_itself}
 use Rattle.master_state.proofs.Doings.{none_more}
 use Rattle.master_state.proofs.Moves.{before_differs, both_true, itself, moved_so}
-use Rattle.master_rounds.specs.News.{offers_all, offers_at}
+use Rattle.master_rounds.specs.News.{CanAllBeMade, CanBeMade, offers_all, offers_at}
 use Rattle.master_rounds.proofs.Bounds.{HaveRows, Visited, made_at, more, visited}
 
 abbrev pub offer_move : MadeOffer → Move
@@ -91,6 +93,42 @@ drop_own (o ∷ os) = drop_own os
 abbrev made_on : List ℕ → List Offer → List MadeOffer
 made_on agent os = map (λ o. record { agent = agent; offer = o }) os
 
+-- which offers can be made
+
+-- no id is before this one
+abbrev Later : Numbered → List MadeOffer → Type 0
+Later next gs = AllByRecursion (λ g. before g.offer.id next ≡ false) gs
+
+later_still : (next : Numbered) (gs : List MadeOffer) → Later (following next) gs → Later next gs
+later_still next [] h = tt
+later_still next (g ∷ gs) h = (let f : before g.offer.id (following next) ≡ false = h.0 in let t : before g.offer.id next ≡ false = grind (arith, nat_tests) in t, later_still next gs h.1)
+
+none_so : (next id : Numbered) (os : List Offer) → AllByRecursion (λ o. before o.id next ≡ true) os → before id next ≡ false → list_any (λ o. same o.id id) os ≡ false
+none_so next id [] h later = refl
+none_so next id (o ∷ os) h later =
+    let is : before o.id next ≡ true = h.0 in
+    let other : same o.id id ≡ false = grind (arith, nat_tests) in
+    rw other (none_so next id os h.1 later)
+
+none_offered : (next : Numbered) (ss : List Side) → AllByRecursion (OffersBefore next) ss → is_offered next ss ≡ false
+none_offered next [] h = refl
+none_offered next (s ∷ ss) h = rw (no_id next s.offers h.0) (none_offered next ss h.1)
+
+below_push : (next : Numbered) (os : List Offer) (o : Offer) → AllByRecursion (λ p. before p.id next ≡ true) os → before o.id next ≡ true → AllByRecursion (λ p. before p.id next ≡ true) (os ++ o ∷ [])
+below_push next [] o h is = (is, tt)
+below_push next (p ∷ os) o h is = (h.0, below_push next os o h.1 is)
+
+-- an agent at which none of these is made, and whose offers have ids before theirs, is passed
+can_pass : (s : Side) (next : Numbered) (gs : List MadeOffer) (ss : List Side) → OffersBefore next s → Later next gs → Others s.name gs → CanAllBeMade (map offer_of gs) ss → CanAllBeMade (map offer_of gs) (s ∷ ss)
+can_pass s next [] ss below later others can = tt
+can_pass s next (g ∷ gs) ss below later others can = (
+  record { fresh = rw (none_so next g.offer.id s.offers below later.0) can.0.fresh; room = rw others.0 can.0.room },
+  subst (CanAllBeMade (map offer_of gs)) (sym one) (can_pass s next gs (offers_at ss (offer_of g)) below later.1 others.1 can.1),
+)
+  where
+    one : offers_at (s ∷ ss) (offer_of g) ≡ s ∷ offers_at ss (offer_of g)
+    one = rw others.0 refl
+
 -- what is made of a round, from some agents on
 pub record Made (r : Round) (ss : List Side) (after : Round) : Type 0 where
   pub gs : List MadeOffer
@@ -101,6 +139,8 @@ pub record Made (r : Round) (ss : List Side) (after : Round) : Type 0 where
   pub entered_are : entered ss news ≡ gs
   pub few : length gs ≤ length ss
   pub others : (name : List ℕ) → list_all (bytes_before name) (side_names ss) ≡ true → Others name gs
+  pub later : Later r.next gs
+  pub can : CanAllBeMade (map offer_of gs) ss
 
 nothing_made : (r : Round) → Made r [] r
 nothing_made r = record {
@@ -112,11 +152,13 @@ nothing_made r = record {
   entered_are = refl;
   few = omega arith;
   others = λ name h. tt;
+  later = tt;
+  can = tt;
 }
 
 -- nothing is offered at the first agent
-passed_over : (r : Round) (s : Side) (ss : List Side) (next after : Round) → next ≡ r → list_all (bytes_before s.name) (side_names ss) ≡ true → Made next ss after → Made r (s ∷ ss) after
-passed_over r s ss next after e behind k = record {
+passed_over : (r : Round) (s : Side) (ss : List Side) (next after : Round) → OffersBefore r.next s → next ≡ r → list_all (bytes_before s.name) (side_names ss) ≡ true → Made next ss after → Made r (s ∷ ss) after
+passed_over r s ss next after below e behind k = record {
   gs = k.gs;
   news = s ∷ k.news;
   made = k.made ∙ ap (λ (x : Round). x.made ++ k.gs) e;
@@ -125,10 +167,15 @@ passed_over r s ss next after e behind k = record {
   entered_are = ap (λ os. made_on s.name os ++ entered ss k.news) (drop_own s.offers) ∙ k.entered_are;
   few = omega (arith, k.few);
   others = λ name h. k.others name (both_true (bytes_before name s.name) (list_all (bytes_before name) (side_names ss)) h).1;
+  later = later;
+  can = can_pass s r.next k.gs ss below later (k.others s.name behind) k.can;
 }
+  where
+    later : Later r.next k.gs
+    later = subst (λ (x : Round). Later x.next k.gs) e k.later
 
 -- what is free at the first agent is offered
-made_first : (r : Round) (s : Side) (ss : List Side) (f : Numbered) (next after : Round) → AreRows s.total → FitsTotal s → OffersBefore r.next s → s.is_open ≡ true → next ≡ more r s f
+made_first : (r : Round) (s : Side) (ss : List Side) (f : Numbered) (next after : Round) → AreRows s.total → FitsTotal s → AllByRecursion (OffersBefore r.next) (s ∷ ss) → s.is_open ≡ true → next ≡ more r s f
     → list_all (bytes_before s.name) (side_names ss) ≡ true → Made next ss after → Made r (s ∷ ss) after
 made_first r s ss f next after are fits below is e behind k = record {
   gs = g ∷ k.gs;
@@ -141,6 +188,11 @@ made_first r s ss f next after are fits below is e behind k = record {
   entered_are = ap (λ os. made_on s.name os ++ entered ss k.news) (drop_front s.offers g.offer) ∙ ap (λ hs. g ∷ hs) k.entered_are;
   few = omega (arith, k.few);
   others = λ name h. let both = both_true (bytes_before name s.name) (list_all (bytes_before name) (side_names ss)) h in (before_differs name s.name both.0, k.others name both.1);
+  later = (let own : before r.next r.next ≡ false = grind (arith, nat_tests) in own, later_still r.next k.gs later);
+  can = (
+    record { fresh = none_offered r.next (s ∷ ss) below; room = rw (itself s.name) (free_covered s are fits) },
+    subst (CanAllBeMade (map offer_of k.gs)) (sym here_too) (can_pass (with_offer g.offer s) (following r.next) k.gs ss (below_push (following r.next) s.offers g.offer further own_too) later (k.others s.name behind) k.can),
+  );
 }
   where
     g : MadeOffer
@@ -153,7 +205,16 @@ made_first r s ss f next after are fits below is e behind k = record {
         ∙ ap (λ mails. past_side (with_offer g.offer s) (moved_so (with_next (following r.next) run) ss mails)) (none_more sent)
 
     here_too : offers_at (s ∷ ss) (offer_of g) ≡ with_offer g.offer s ∷ ss
-    here_too = ap (λ b. cond b (offering g.offer s ∷ ss) (s ∷ at_name s.name (offering g.offer) ss)) (itself s.name) ∙ ap (λ t. t ∷ ss) (code_makes s f r.next are fits below)
+    here_too = ap (λ b. cond b (offering g.offer s ∷ ss) (s ∷ at_name s.name (offering g.offer) ss)) (itself s.name) ∙ ap (λ t. t ∷ ss) (code_makes s f r.next are fits below.0)
+
+    later : Later (following r.next) k.gs
+    later = subst (λ (x : Round). Later x.next k.gs) e k.later
+
+    further : OffersBefore (following r.next) s
+    further = (sides_later r.next (following r.next) (inr refl) (s ∷ []) (below.0, tt)).0
+
+    own_too : before r.next (following r.next) ≡ true
+    own_too = grind (arith, nat_tests)
 
 next_goes : (r : Round) (s : Side) (after : Round) → Visited r s after → Goes r.next after.next
 next_goes r s after (inl e) = inl (ap (λ (x : Round). x.next) e)
@@ -170,5 +231,11 @@ all_made ws now totals cs (s ∷ ss) r rows fits below ordered =
     both = both_true (list_all (bytes_before s.name) (side_names ss)) (are_ordered (side_names ss)) ordered
 
     by : Visited r s (visits ws now totals cs r s) → Made (visits ws now totals cs r s) ss (fold (visits ws now totals cs) (visits ws now totals cs r s) ss) → Made r (s ∷ ss) (fold (visits ws now totals cs) (visits ws now totals cs r s) ss)
-    by (inl e) k = passed_over r s ss (visits ws now totals cs r s) (fold (visits ws now totals cs) (visits ws now totals cs r s) ss) e both.0 k
-    by (inr v) k = made_first r s ss v.0 (visits ws now totals cs r s) (fold (visits ws now totals cs) (visits ws now totals cs r s) ss) rows.0 fits.0 below.0 v.1 v.2 both.0 k
+    by (inl e) k = passed_over r s ss (visits ws now totals cs r s) (fold (visits ws now totals cs) (visits ws now totals cs r s) ss) below.0 e both.0 k
+    by (inr v) k = made_first r s ss v.0 (visits ws now totals cs r s) (fold (visits ws now totals cs) (visits ws now totals cs r s) ss) rows.0 fits.0 below v.1 v.2 both.0 k
+
+-- each can be made once those before it are
+pub can_at : (os : List json_offer.SentOffer) (i : ℕ) (o : json_offer.SentOffer) (ss : List Side) → i < length os → o ≡ get_or os i o → CanAllBeMade os ss → CanBeMade o (offers_all (take i os) ss)
+can_at [] i o ss low is can = absurd (omega (arith, low))
+can_at (p ∷ os) zero o ss low is can = subst (λ q. CanBeMade q ss) (sym is) can.0
+can_at (p ∷ os) (suc i) o ss low is can = can_at os i o (offers_at ss p) (omega (arith, low)) is can.1

@@ -7,12 +7,12 @@ use Rattle.std.proofs.lemmas.List.{get_or_default, get_or-take, length-take-le, 
 use Rattle.std.proofs.lemmas.List.Elements.{All-head, All-tail, All-more, All-weaker}
 use Rattle.std.proofs.lemmas.List.Sorted.{All-permutation, IsPermutation-sym}
 use Rattle.names_core.specs.Ids.{Numbered, same, before}
-use Rattle.mails.specs.declared.framework.Framework.{Framework}
-use Rattle.scheduler_events.specs.declared.offer.Offer.{Offer}
-use Rattle.scheduler_events.specs.declared.stream_event.StreamEvent.{StreamEvent}
-use Rattle.frameworks.specs.Frameworks.{are_ordered, place_of}
-use Rattle.frameworks.proofs.Ordered.{AllBehind, both_true}
-use Rattle.frameworks.proofs.Placed.{all_at}
+use Rattle.messages.specs.declared.framework.Framework.{Framework}
+use Rattle.messages.specs.declared.events.offer.SentOffer.{SentOffer}
+use Rattle.messages.specs.declared.events.stream_event.StreamEvent.{StreamEvent}
+use Rattle.master_state.specs.Frameworks.{are_ordered, place_of}
+use Rattle.master_state.proofs.Ordered.{AllBehind, both_true}
+use Rattle.master_state.proofs.Placed.{all_at}
 use Rattle.master_rounds.specs.News.{news_of, event_on, places_of}
 
 -- the place of a framework's own id
@@ -40,7 +40,7 @@ Outside first end place = (place < first) ⊎ (end ≤ place)
 
 -- a framework at a place where none of the offers' stands
 
-none_for : (fs : List Framework) (os : List Offer) (first end i : ℕ) (f : Framework) → are_ordered fs ≡ true → i < length fs → f ≡ get_or fs i f → first ≤ i → i < end → All (Outside first end) (places_of fs os)
+none_for : (fs : List Framework) (os : List SentOffer) (first end i : ℕ) (f : Framework) → are_ordered fs ≡ true → i < length fs → f ≡ get_or fs i f → first ≤ i → i < end → All (Outside first end) (places_of fs os)
     → filter (λ o. same o.framework f.id) os ≡ []
 none_for fs [] first end i f o within is low high out = refl
 none_for fs (x ∷ os) first end i f o within is low high out = by (same x.framework f.id) refl (none_for fs os first end i f o within is low high (All-tail (Outside first end) (place_of x.framework fs) (places_of fs os) out))
@@ -59,18 +59,18 @@ no_event (Some stream) = refl
 
 -- news of some frameworks, and of one more
 
-news_more : (os : List Offer) (fs : List Framework) (f : Framework) → flat_map (news_of os) (fs ++ f ∷ []) ≡ flat_map (news_of os) fs ++ news_of os f
+news_more : (os : List SentOffer) (fs : List Framework) (f : Framework) → flat_map (news_of os) (fs ++ f ∷ []) ≡ flat_map (news_of os) fs ++ news_of os f
 news_more os [] f = append-nil (news_of os f)
 news_more os (g ∷ fs) f = ap (λ es. news_of os g ++ es) (news_more os fs f) ∙ sym (append_assoc (news_of os g) (flat_map (news_of os) fs) (news_of os f))
 
-news_with : (os : List Offer) (fs : List Framework) (i : ℕ) (f : Framework) → i < length fs → f ≡ get_or fs i f → flat_map (news_of os) (take (i + 1) fs) ≡ flat_map (news_of os) (take i fs) ++ news_of os f
+news_with : (os : List SentOffer) (fs : List Framework) (i : ℕ) (f : Framework) → i < length fs → f ≡ get_or fs i f → flat_map (news_of os) (take (i + 1) fs) ≡ flat_map (news_of os) (take i fs) ++ news_of os f
 news_with os fs i f within is =
     ap (flat_map (news_of os)) (take_more fs i f within ∙ ap (λ (g : Framework). take i fs ++ g ∷ []) (sym is))
     ∙ news_more os (take i fs) f
 
 -- frameworks from the first place to the end, where none of the offers' stands
 
-no_news_between : (os : List Offer) (fs : List Framework) (first end n : ℕ) → are_ordered fs ≡ true → first + n ≤ end → end ≤ length fs → All (Outside first end) (places_of fs os)
+no_news_between : (os : List SentOffer) (fs : List Framework) (first end n : ℕ) → are_ordered fs ≡ true → first + n ≤ end → end ≤ length fs → All (Outside first end) (places_of fs os)
     → flat_map (news_of os) (take (first + n) fs) ≡ flat_map (news_of os) (take first fs)
 no_news_between os fs first end zero o most within out = ap (λ i. flat_map (news_of os) (take i fs)) (omega arith)
 no_news_between os [] first end (suc n) o most within out = absurd (omega arith)
@@ -88,14 +88,14 @@ no_news_between os (g ∷ gs) first end (suc n) o most within out =
     ∙ append-nil (flat_map (news_of os) (take i fs))
     ∙ no_news_between os fs first end n o (omega arith) within out
 
-no_news_until : (os : List Offer) (fs : List Framework) (ps : List ℕ) (first end : ℕ) → are_ordered fs ≡ true → first ≤ end → end ≤ length fs → IsPermutation (places_of fs os) ps → All (Outside first end) ps
+no_news_until : (os : List SentOffer) (fs : List Framework) (ps : List ℕ) (first end : ℕ) → are_ordered fs ≡ true → first ≤ end → end ≤ length fs → IsPermutation (places_of fs os) ps → All (Outside first end) ps
     → flat_map (news_of os) (take end fs) ≡ flat_map (news_of os) (take first fs)
 no_news_until os fs ps first end o most within moved out =
     let to : first + (end - first) ≡ end = omega arith in
     ap (λ i. flat_map (news_of os) (take i fs)) (sym to)
     ∙ no_news_between os fs first end (end - first) o (omega arith) within (All-permutation (Outside first end) ps (places_of fs os) (IsPermutation-sym (places_of fs os) ps moved) out)
 
-pub all_told : (os : List Offer) (fs : List Framework) (ps : List ℕ) (first : ℕ) → are_ordered fs ≡ true → first ≤ length fs → IsPermutation (places_of fs os) ps → All (Outside first (length fs)) ps
+pub all_told : (os : List SentOffer) (fs : List Framework) (ps : List ℕ) (first : ℕ) → are_ordered fs ≡ true → first ≤ length fs → IsPermutation (places_of fs os) ps → All (Outside first (length fs)) ps
     → flat_map (news_of os) (take first fs) ≡ flat_map (news_of os) fs
 all_told os fs ps first o most moved out =
     sym (no_news_until os fs ps first (length fs) o most (omega arith) moved out)
@@ -130,7 +130,7 @@ outside_here ps i p first end rise within is most out = λ k d below. by k d bel
         let no_earlier : get_or ps i d ≤ get_or ps k d = rise i k d behind below in
         inr (omega arith)
 
-pub told_more : (os : List Offer) (fs : List Framework) (ps : List ℕ) (i p first : ℕ) (f : Framework) (old es : List StreamEvent) → are_ordered fs ≡ true → IsPermutation (places_of fs os) ps → IsNonDecreasing ps
+pub told_more : (os : List SentOffer) (fs : List Framework) (ps : List ℕ) (i p first : ℕ) (f : Framework) (old es : List StreamEvent) → are_ordered fs ≡ true → IsPermutation (places_of fs os) ps → IsNonDecreasing ps
     → i < length ps → p ≡ get_or ps i p → All (Outside first (length fs)) (take i ps) → first ≤ p → p < length fs → f ≡ get_or fs p f
     → es ≡ old ++ flat_map (news_of os) (take first fs) → es ++ news_of os f ≡ old ++ flat_map (news_of os) (take (p + 1) fs)
 told_more os fs ps i p first f old es o moved rise within at out most inside is so =

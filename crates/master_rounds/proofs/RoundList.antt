@@ -3,16 +3,16 @@ use Rattle.std.proofs.Common.{◌≡◌, ◌⊎◌, ℕ, Bool, true, false, List
 use Rattle.std.specs.Prelude.{if◌then◌else◌, nat_lt}
 use Rattle.names_core.specs.Ids.{Numbered}
 use Rattle.quantity.specs.declared.rows.Row.{Row}
-use Rattle.role_weights.specs.Weights.{RoleWeight}
+use Rattle.names_core.specs.Weights.{RoleWeight}
 use Rattle.cluster_model.specs.Ids.{is_empty, last_number}
 use Rattle.cluster_model.specs.Sides.{Side}
 use Rattle.cluster_model.specs.Events.{MadeOffer}
 use Rattle.cluster_model.specs.Masters.{Master}
 use Rattle.cluster_model.specs.Rounds as rounds
 use Rattle.cluster_model.specs.Rounds.{Client, Round, clients_of, free, pick, totals_of}
-use Rattle.round_shares.specs.Served.{GoesTo}
-use Rattle.round_shares.specs.Laws.{CanBeSummed}
-use Rattle.round_shares.proofs.Serving.{goes_to_picked}
+use Rattle.master_rounds.specs.Served.{GoesTo}
+use Rattle.master_rounds.specs.Laws.{CanBeSummed}
+use Rattle.master_rounds.proofs.Serving.{goes_to_picked}
 use Rattle.master_rounds.specs.Rounds.{AreOffersOf, IsOffered, IsPassedOver, offer_at}
 use Rattle.master_rounds.specs.Visits.{Progress, visits}
 use Rattle.master_rounds.proofs.Agreeing.{Agrees, Allocates, visit_alike}

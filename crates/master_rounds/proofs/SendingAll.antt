@@ -1,26 +1,26 @@
 -- The events of a round, and all that a master holds after it.
 use Rattle.std.proofs.Common.{◌≡◌, ℕ, suc, ◌≤◌, Bool, true, false, cond, List, [], ◌∷◌, ◌++◌, map, filter, flat_map, fold, length, Option, Some, None, refl, sym, ap, subst, ◌∙◌, arith}
 use Rattle.names_core.specs.Ids.{Numbered, same}
-use Rattle.mails.specs.declared.framework.Framework.{Framework}
+use Rattle.messages.specs.declared.framework.Framework.{Framework}
 use Rattle.cluster_model.specs.Sides.{Side}
 use Rattle.cluster_model.specs.Events.{MadeOffer, Offers, offer_of}
 use Rattle.cluster_model.specs.Masters.{Moved, move_all, moved, on_stream}
-use Rattle.role_weights.specs.Weights.{RoleWeight}
+use Rattle.names_core.specs.Weights.{RoleWeight}
 use Rattle.cluster_model.specs.Rounds as rounds
 use Rattle.cluster_model.specs.Rounds.{Round, allocated, clients_of, entered, making, offers_of, offer_events, totals_of}
-use Rattle.frameworks.specs.Frameworks as frameworks
-use Rattle.agent_sides.specs.Configs.{are_ordered}
-use Rattle.agent_sides.specs.Joined.{side_names}
-use Rattle.side_fits.specs.Fits.{SidesFit}
+use Rattle.master_state.specs.Frameworks as frameworks
+use Rattle.master_agents.specs.Configs.{are_ordered}
+use Rattle.master_agents.specs.Joined.{side_names}
+use Rattle.cluster_model.specs.Fits.{SidesFit}
 use Rattle.master_state.specs.declared.state.State.{State}
-use Rattle.scheduler_events.specs.declared.stream_event.StreamEvent.{StreamEvent}
+use Rattle.messages.specs.declared.events.stream_event.StreamEvent.{StreamEvent}
 use Rattle.master_state.specs.Works.{Work, done, master_of, registers_of, run_of, work_of}
 use Rattle.master_state.proofs.Doings.{none_more}
 use Rattle.master_state.proofs.Moves.{moved_so}
-use Rattle.master_rounds.specs.News.{event_on, news_of, offers_all}
+use Rattle.master_rounds.specs.News.{CanAllBeMade, event_on, news_of, offers_all}
 use Rattle.master_rounds.specs.Visits.{KeepsRoom, begins, round_with}
 use Rattle.drf_pick.specs.Shares.{Tally}
-use Rattle.round_shares.specs.Allocations.{ShowRound}
+use Rattle.master_rounds.specs.Allocations.{ShowRound}
 use Rattle.master_rounds.proofs.Agreeing.{Agrees, keeps_room, rounds_alike}
 use Rattle.master_rounds.proofs.Bounds.{HaveRows}
 use Rattle.master_rounds.specs.Rounds.{AreOfRound}
@@ -93,6 +93,12 @@ pub few_made : (ws : List RoleWeight) (s : State) (t : Tally) → Holds s → Sh
 few_made ws s t h shown =
     let k = made_of ws s h in
     omega (arith, ap length (agreed ws s t h shown).made, length_mapped (round_after ws s).made, ap length k.made, k.few, h.fit.few)
+
+-- each offer of a round can be made
+pub made_can : (ws : List RoleWeight) (s : State) (t : Tally) → Holds s → ShowRound ws s.sides s.frameworks [] t → CanAllBeMade (round_with t s).made s.sides
+made_can ws s t h shown =
+    let k = made_of ws s h in
+    subst (λ os. CanAllBeMade os s.sides) (sym ((agreed ws s t h shown).made ∙ ap (map offer_of) k.made)) k.can
 
 abbrev pub with_all : State → ℕ → List Side → List StreamEvent → Work
 with_all s next ss events = record {

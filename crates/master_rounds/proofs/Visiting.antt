@@ -1,9 +1,9 @@
 -- The visit of an agent at a place.
 use Rattle.std.proofs.Common.{◌≡◌, ℕ, zero, suc, ◌+◌, ◌<◌, List, [], ◌∷◌, length, take, fold, None, refl, ap, ◌∙◌, arith}
-use Rattle.mails.specs.declared.framework.Framework.{Framework}
+use Rattle.messages.specs.declared.framework.Framework.{Framework}
 use Rattle.cluster_model.specs.Sides.{Side}
 use Rattle.roster.specs.Places.{value_at}
-use Rattle.agent_sides.specs.Free.{open_part}
+use Rattle.master_agents.specs.Free.{open_part}
 use Rattle.master_rounds.specs.Visits.{Progress, visits, visits_part}
 
 visited_next : (run now : ℕ) (fs : List Framework) (p : Progress) (ss : List Side) (i : ℕ) → i < length ss

@@ -1,3 +1,10 @@
 pub mod Visits
 pub mod News
 pub mod Rounds
+pub mod Candidates
+pub mod Owned
+pub mod Allocations
+pub mod Picks
+pub mod Laws
+pub mod Weighing
+pub mod Served

@@ -1,13 +1,13 @@
 -- The list of offers of a round (DRF paper, section 4; Mesos paper, section 3.1).
 use Rattle.std.specs.Prelude.{◌≡◌, ◌⊎◌, ◌++◌, true, false, List, [], ◌∷◌, Some, None, nat_lt}
 use Rattle.names_core.specs.Ids.{Numbered}
-use Rattle.role_weights.specs.Weights.{RoleWeight}
+use Rattle.names_core.specs.Weights.{RoleWeight}
 use Rattle.cluster_model.specs.Ids.{following, is_empty, last_number}
 use Rattle.cluster_model.specs.Sides.{Side}
 use Rattle.cluster_model.specs.Events.{MadeOffer}
 use Rattle.cluster_model.specs.Masters.{Master}
 use Rattle.cluster_model.specs.Rounds.{free}
-use Rattle.round_shares.specs.Served.{GoesTo}
+use Rattle.master_rounds.specs.Served.{GoesTo}
 
 -- an agent's whole free part
 abbrev pub offer_at : Side → Numbered → Numbered → MadeOffer

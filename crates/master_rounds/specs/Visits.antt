@@ -2,22 +2,22 @@
 use Rattle.std.specs.Prelude.{◌≡◌, ⊤, ℕ, suc, ◌||◌, nat_lt, if◌then◌else◌, List, [], ◌∷◌, ◌++◌, fold, take, Option, Some, None}
 use Rattle.names_core.specs.Ids.{Numbered}
 use Rattle.quantity.specs.declared.rows.Row.{Row}
-use Rattle.mails.specs.declared.framework.Framework.{Framework}
-use Rattle.scheduler_events.specs.declared.offer.Offer as json_offer
-use Rattle.role_weights.specs.Weights.{RoleWeight}
+use Rattle.messages.specs.declared.framework.Framework.{Framework}
+use Rattle.messages.specs.declared.events.offer.SentOffer as json_offer
+use Rattle.names_core.specs.Weights.{RoleWeight}
 use Rattle.cluster_model.specs.Ids.{is_empty, last_number}
 use Rattle.cluster_model.specs.Sides.{Side}
 use Rattle.drf_pick.specs.Shares.{CanHold, Tally, held_more}
 use Rattle.roster.specs.Places.{value_at}
-use Rattle.agent_sides.specs.Free.{open_part}
+use Rattle.master_agents.specs.Free.{open_part}
 use Rattle.drf_pick.specs.declared.counted.Allocation.{Allocation}
-use Rattle.round_shares.specs.Allocations.{ShowRound}
-use Rattle.round_shares.specs.Picks.{picked}
+use Rattle.master_rounds.specs.Allocations.{ShowRound}
+use Rattle.master_rounds.specs.Picks.{picked}
 use Rattle.master_state.specs.declared.state.State.{State}
 pub use Rattle.master_rounds.specs.declared.visit.Progress.{Progress}
 
 -- the offer of what is free on an agent
-abbrev pub next_offer : ℕ → List ℕ → List Row → ℕ → Numbered → json_offer.Offer
+abbrev pub next_offer : ℕ → List ℕ → List Row → ℕ → Numbered → json_offer.SentOffer
 next_offer run agent free number framework =
     record {
       id = record { run = run; n = number };
@@ -72,7 +72,7 @@ KeepsRoom s p =
 
 -- the offers of a round, and the number of the next offer after them, by shares that show what is
 -- allocated
-pub record IsRound (ws : List RoleWeight) (s : State) (made : List json_offer.Offer) (next : ℕ)
+pub record IsRound (ws : List RoleWeight) (s : State) (made : List json_offer.SentOffer) (next : ℕ)
     : Type 0 where
   pub shares : Tally
   pub shown : ShowRound ws s.sides s.frameworks [] shares
@@ -80,5 +80,5 @@ pub record IsRound (ws : List RoleWeight) (s : State) (made : List json_offer.Of
   pub next_is : next ≡ (round_with shares s).next
 
 -- what an offer allocates
-abbrev pub allocation_by : json_offer.Offer → Allocation
+abbrev pub allocation_by : json_offer.SentOffer → Allocation
 allocation_by o = record { framework = o.framework; resources = o.resources }

@@ -3,6 +3,8 @@
 
 mod news;
 mod round;
+mod shares;
 mod visit;
 
 pub use round::allocate;
+pub use shares::{Candidate, candidates_of, goes_to_picked, picked, picks_alike, shares_of};

@@ -3,42 +3,38 @@
 ghost use Rattle.std.specs.Prelude.{◌≡◌, ◌++◌, ◌≤◌, true, filter, flat_map, length, IfOk, OnOk};
 ghost use Rattle.std.specs.List.Sorted.{IsNonDecreasing, IsPermutation};
 ghost use Rattle.names_core.specs.Ids.{same};
-ghost use Rattle.frameworks.specs.Frameworks.{are_ordered};
-ghost use Rattle.master_rounds.specs.News.{news_of, offers_all, offers_at, offers_event, places_of, plain};
+ghost use Rattle.master_state.specs.Frameworks.{are_ordered};
+ghost use Rattle.master_rounds.specs.News.{CanAllBeMade, CanBeMade, news_of, offers_all, offers_at, offers_event, places_of, plain};
 
-use agent_sides::Sides;
-use frameworks::place_in;
-use listed::Listed;
-use mails::Framework;
+use master_agents::Sides;
+use master_state::place_in;
+use messages::{Event, Framework, Offers, SentOffer, StreamEvent};
 use names_core::{FrameworkId, StreamId};
-use plain_data::Plain;
-use scheduler_events::{Event, Offer, Offers, StreamEvent};
 use std::alloc::{AllocError, Global};
+use values::{Listed, Plain};
 
-fn plain(offer: &Offer) -> Result<mails::Offer, AllocError>
+fn plain(offer: &SentOffer) -> Result<messages::Offer, AllocError>
     ensures { IfOk result (λ copy. copy ≡ plain offer.now) }
 {
-    Ok(mails::Offer {
+    Ok(messages::Offer {
         id: offer.id,
         framework: offer.framework,
         resources: offer.resources.copy()?,
     })
 }
 
-/// Makes an offer at its agent. Its id is new, and it is of what is free there:
-/// a refusal is taken as want of memory.
-fn offer_one(sides: &mut Sides, offer: &Offer) -> Result<(), AllocError>
+/// Makes an offer at its agent.
+fn offer_one(sides: &mut Sides, offer: &SentOffer) -> Result<(), AllocError>
+    requires { CanBeMade offer.now sides.old }
     ensures { OnOk result (sides.new ≡ offers_at sides.old offer.now) }
 {
     let made = plain(offer)?;
-    match sides.offer_to(&offer.agent, made) {
-        Ok(()) => Ok(()),
-        Err(_) => Err(AllocError),
-    }
+    sides.offer_to(&offer.agent, made)
 }
 
 /// Makes the offers at their agents.
-pub fn offer_all(sides: &mut Sides, offers: &[Offer]) -> Result<(), AllocError>
+pub fn offer_all(sides: &mut Sides, offers: &[SentOffer]) -> Result<(), AllocError>
+    requires { CanAllBeMade offers.now sides.old }
     ensures { OnOk result (sides.new ≡ offers_all offers.now sides.old) }
 {
     for offer in offers {
@@ -47,16 +43,16 @@ pub fn offer_all(sides: &mut Sides, offers: &[Offer]) -> Result<(), AllocError>
     Ok(())
 }
 
-fn is_for(offer: &Offer, framework: FrameworkId) -> bool
+fn is_for(offer: &SentOffer, framework: FrameworkId) -> bool
     ensures { result ≡ same offer.now.framework framework }
 {
     offer.framework == framework
 }
 
-fn copied(offer: &Offer) -> Result<Offer, AllocError>
+fn copied(offer: &SentOffer) -> Result<SentOffer, AllocError>
     ensures { IfOk result (λ copy. copy ≡ offer.now) }
 {
-    Ok(Offer {
+    Ok(SentOffer {
         id: offer.id,
         framework: offer.framework,
         agent: offer.agent.copy()?,
@@ -67,9 +63,9 @@ fn copied(offer: &Offer) -> Result<Offer, AllocError>
 /// Copies of the offers for a framework.
 fn offers_for(
     alloc: Global,
-    offers: &[Offer],
+    offers: &[SentOffer],
     framework: FrameworkId,
-) -> Result<Vec<Offer>, AllocError>
+) -> Result<Vec<SentOffer>, AllocError>
     requires { length offers.now ≤ 256 }
     ensures copies { IfOk result (λ copies. copies.items
         ≡ filter (λ o. same o.framework framework) offers.now) }
@@ -87,7 +83,7 @@ fn offers_for(
 fn send_on(
     events: &mut Listed<StreamEvent>,
     stream: StreamId,
-    offers: Vec<Offer>,
+    offers: Vec<SentOffer>,
 ) -> Result<(), AllocError>
     requires { length offers.items ≤ 256 }
     ensures { OnOk result (events.new ≡ events.old ++ offers_event stream offers.items) }
@@ -105,7 +101,7 @@ fn send_on(
 fn send_to(
     events: &mut Listed<StreamEvent>,
     alloc: Global,
-    offers: &[Offer],
+    offers: &[SentOffer],
     framework: &Framework,
 ) -> Result<(), AllocError>
     requires { length offers.now ≤ 256 }
@@ -123,7 +119,7 @@ fn send_to(
 /// The places of the offers' frameworks, in the order of the offers.
 fn places_of(
     alloc: Global,
-    offers: &[Offer],
+    offers: &[SentOffer],
     frameworks: &[Framework],
 ) -> Result<Vec<usize>, AllocError>
     requires { are_ordered frameworks.now ≡ true }
@@ -139,7 +135,7 @@ fn places_of(
 /// The places of the offers' frameworks, from the first to the last.
 fn ordered_places(
     alloc: Global,
-    offers: &[Offer],
+    offers: &[SentOffer],
     frameworks: &[Framework],
 ) -> Result<Vec<usize>, AllocError>
     requires { are_ordered frameworks.now ≡ true }
@@ -157,7 +153,7 @@ fn ordered_places(
 pub fn send_offers(
     events: &mut Listed<StreamEvent>,
     alloc: Global,
-    offers: &[Offer],
+    offers: &[SentOffer],
     frameworks: &[Framework],
 ) -> Result<(), AllocError>
     requires few { length offers.now ≤ 256 }

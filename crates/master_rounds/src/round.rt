@@ -6,27 +6,28 @@ ghost use Rattle.quantity.specs.Rows.{AreRows};
 ghost use Rattle.quantity.specs.Laws.{SameAmounts};
 ghost use Rattle.cluster_model.specs.Rounds.{allocated, entered};
 ghost use Rattle.master_state.specs.Works.{done, master_of, run_of, work_of};
-ghost use Rattle.side_fits.specs.Fits.{SidesFit};
-ghost use Rattle.agent_sides.specs.Configs.{are_ordered};
-ghost use Rattle.agent_sides.specs.Joined.{side_names};
-ghost use Rattle.frameworks.specs.LastRound.{clients_of};
+ghost use Rattle.cluster_model.specs.Fits.{SidesFit};
+ghost use Rattle.master_agents.specs.Configs.{are_ordered};
+ghost use Rattle.master_agents.specs.Joined.{side_names};
+ghost use Rattle.master_state.specs.LastRound.{clients_of};
 ghost use Rattle.drf_pick.specs.declared.counted.Allocation.{Allocation};
 ghost use Rattle.drf_pick.specs.declared.holder.Client.{Client};
 ghost use Rattle.drf_pick.specs.Shown.{ClientsOnce, TallyShows, all_owned, counted_of};
+ghost use Rattle.master_rounds.specs.News.{CanAllBeMade};
 ghost use Rattle.master_rounds.specs.Rounds.{AreOfRound};
 ghost use Rattle.master_rounds.specs.Visits.{IsRound, allocation_by};
 
 use crate::news::{offer_all, send_offers};
+use crate::shares::shares_of;
 use crate::visit::{Progress, round_of};
 use drf_pick::{CountedShares, Shares, SharesFault};
-use listed::Listed;
 use master_state::State;
-use role_weights::Weights;
-use round_shares::shares_of;
-use scheduler_events::Offer;
+use messages::SentOffer;
+use names_core::Weights;
 use std::alloc::{AllocError, Global};
+use values::Listed;
 
-fn take_back_made(shares: &mut Shares, alloc: Global, made: &[Offer]) -> Result<(), SharesFault>
+fn take_back_made(shares: &mut Shares, alloc: Global, made: &[SentOffer]) -> Result<(), SharesFault>
     ensures shown { OnOk result ((cs : List Client) (rest : List Allocation) → ClientsOnce cs
         → TallyShows (rest ++ map allocation_by made.now) cs shares.old
         → TallyShows rest cs shares.new) }
@@ -40,7 +41,7 @@ fn take_back_made(shares: &mut Shares, alloc: Global, made: &[Offer]) -> Result<
 
 /// Keeps for the next round the shares of this one, in which its offers aren't counted: they are
 /// found on the agents then. Where memory is refused nothing is kept.
-fn keep(state: &mut State, alloc: Global, mut counted: CountedShares, made: &[Offer])
+fn keep(state: &mut State, alloc: Global, mut counted: CountedShares, made: &[SentOffer])
     requires shown { TallyShows (counted_of counted.found.items ++ map allocation_by made.now)
         (clients_of state.old.frameworks) counted.shares }
     requires owned { SameAmounts counted.shares.totals (all_owned counted.owned.items) }
@@ -58,12 +59,13 @@ fn next_offers(
     state: &mut State,
     alloc: Global,
     weights: &Weights,
-) -> Result<(Listed<Offer>, u64), AllocError>
+) -> Result<(Listed<SentOffer>, u64), AllocError>
     requires next { 0 < state.old.next_offer }
     requires names { are_ordered (side_names state.old.sides) ≡ true }
     requires rows { AllByRecursion (λ s. AreRows s.total) state.old.sides }
     requires fits { SidesFit (run_of state.old) state.old.sides }
     ensures round { IfOk result (λ offers. IsRound weights.now state.old offers.0 offers.1) }
+    ensures can { IfOk result (λ offers. CanAllBeMade offers.0 state.old.sides) }
     ensures state { OnOk result (state.new ≡ state.old) }
 {
     let _ordered = state.frameworks.as_slice();

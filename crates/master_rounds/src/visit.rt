@@ -4,21 +4,19 @@ ghost use Rattle.std.specs.Prelude.{◌≡◌, ◌≤◌, ◌<◌, None, Some, f
 ghost use Rattle.cluster_model.specs.Ids.{is_empty, last_number};
 ghost use Rattle.drf_pick.specs.Shares.{CanHold, held_more};
 ghost use Rattle.roster.specs.Places.{value_at};
-ghost use Rattle.agent_sides.specs.Free.{open_part};
-ghost use Rattle.frameworks.specs.Starts.{AreStarts};
-ghost use Rattle.round_shares.specs.Candidates.{AreCandidates};
+ghost use Rattle.master_agents.specs.Free.{open_part};
+ghost use Rattle.master_state.specs.Starts.{AreStarts};
+ghost use Rattle.master_rounds.specs.Candidates.{AreCandidates};
 ghost use Rattle.master_rounds.specs.Visits.{HasRoom, KeepsRoom, begins, goes_to, offers_free, round_with, visits, visits_part};
 
+use crate::shares::{Candidate, candidates_of, picked};
 use drf_pick::Shares;
-use frameworks::Starts;
-use listed::Listed;
-use master_state::State;
+use master_state::{SearchHints, State};
+use messages::SentOffer;
 use names_core::{AgentName, FrameworkId, OfferId, Run};
-use plain_data::Plain;
 use quantity::Resources;
-use round_shares::{Candidate, candidates_of, picked};
-use scheduler_events::Offer;
 use std::alloc::{AllocError, Global};
+use values::{Listed, Plain};
 
 /// The last number of an offer.
 const LAST_NUMBER: u64 = 4_294_967_295;
@@ -27,7 +25,7 @@ const LAST_NUMBER: u64 = 4_294_967_295;
 #[derive(Drop)]
 pub struct Progress {
     /// The offers made so far, in order.
-    pub made: Listed<Offer>,
+    pub made: Listed<SentOffer>,
     /// The number of the next offer.
     pub next: u64,
     /// What frameworks hold, with these offers.
@@ -67,7 +65,7 @@ fn go_to(
     give(&mut progress.shares, alloc, framework, &free)?;
     let agent = agent.copy()?;
     let id = OfferId::new(run.number(), progress.next as u32);
-    progress.made.push(Offer {
+    progress.made.push(SentOffer {
         id,
         framework,
         agent,
@@ -88,7 +86,7 @@ fn offer_free(
     alloc: Global,
     state: &State,
     candidates: &[Candidate],
-    starts: &mut Starts,
+    starts: &mut SearchHints,
     place: usize,
     agent: &AgentName,
     free: Resources,
@@ -122,7 +120,7 @@ fn visit(
     alloc: Global,
     state: &State,
     candidates: &[Candidate],
-    starts: &mut Starts,
+    starts: &mut SearchHints,
     place: usize,
 ) -> Result<(), AllocError>
     requires numbered { 0 < progress.old.next }
@@ -149,7 +147,7 @@ fn visit_all(
     alloc: Global,
     state: &State,
     candidates: &[Candidate],
-    starts: &mut Starts,
+    starts: &mut SearchHints,
 ) -> Result<(), AllocError>
     requires numbered { 0 < progress.old.next }
     requires room { KeepsRoom state.now progress.old }
@@ -171,7 +169,7 @@ pub fn round_of(
     state: &State,
     alloc: Global,
     shares: Shares,
-    starts: &mut Starts,
+    starts: &mut SearchHints,
 ) -> Result<Progress, AllocError>
     requires next { 0 < state.now.next_offer }
     requires room { KeepsRoom state.now (begins shares state.now) }

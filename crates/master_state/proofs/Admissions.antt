@@ -3,10 +3,10 @@ use Rattle.std.proofs.Common.{◌≡◌, Bool, true, false, cond, if◌then◌el
 use Rattle.std.specs.List.{find}
 use Rattle.std.proofs.lemmas.Bool.Decides.{nat_tests}
 use Rattle.names_core.specs.Ids.{Numbered, same}
-use Rattle.mails.specs.declared.refusal.MasterRefusal.{MasterRefusal}
-use Rattle.mails.specs.declared.refusal.MasterRefusal.TheVariants.{NotSubscribed, WrongStream, NoSuchFramework}
-use Rattle.mails.specs.declared.framework.Framework.{Framework}
-use Rattle.cluster_model.specs.Masters.{Doing, Master, framework_of, is_torn, refused}
+use Rattle.messages.specs.declared.refusal.MasterRefusal.{MasterRefusal}
+use Rattle.messages.specs.declared.refusal.MasterRefusal.TheVariants.{NotSubscribed, WrongStream, NoSuchFramework}
+use Rattle.messages.specs.declared.framework.Framework.{Framework}
+use Rattle.cluster_model.specs.Masters.{MasterEffect, Master, framework_of, is_torn, refused}
 use Rattle.cluster_model.specs.Calls.{by_framework, by_known, is_stream, on_its_stream}
 use Rattle.master_state.specs.Works.{admission, admission_of, admission_on}
 
@@ -32,7 +32,7 @@ pub record Admitted (m : Master) (given : Option Numbered) (framework stream : N
   pub known : framework_of m framework ≡ Some caller
   pub id : caller.id ≡ framework
   pub stream_is : caller.stream ≡ Some stream
-  pub does : (doing : Framework → Doing) → by_framework m given framework doing ≡ doing caller
+  pub does : (doing : Framework → MasterEffect) → by_framework m given framework doing ≡ doing caller
 
 on_open : (m : Master) (given : Option Numbered) (open_one stream : Numbered) → admission_on given open_one ≡ Ok stream → (open_one ≡ stream) × (is_stream open_one given ≡ true)
 on_open m given open_one stream e = by (is_stream open_one given) refl e
@@ -62,7 +62,7 @@ admits m given framework stream e = by (framework_of m framework) refl (is_torn 
     by (Some f) q t p h = on f q t p f.stream refl h
 
 -- and one that may not
-pub refuses : (m : Master) (given : Option Numbered) (framework : Numbered) (refusal : MasterRefusal) → admission m given framework ≡ Err refusal → (doing : Framework → Doing) → by_framework m given framework doing ≡ refused m refusal
+pub refuses : (m : Master) (given : Option Numbered) (framework : Numbered) (refusal : MasterRefusal) → admission m given framework ≡ Err refusal → (doing : Framework → MasterEffect) → by_framework m given framework doing ≡ refused m refusal
 refuses m given framework refusal e doing = by (framework_of m framework) refl (is_torn m framework) refl e
   where
     last : (f : Framework) (o : Numbered) (b : Bool) → is_stream o given ≡ b → ◌≡◌ {A = Result Numbered MasterRefusal} (cond b (Ok o) (Err WrongStream)) (Err refusal) → (if b then doing f else refused m WrongStream) ≡ refused m refusal

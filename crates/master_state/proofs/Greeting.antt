@@ -1,9 +1,9 @@
 -- A Hello, and a step that sends nothing, as moves at one agent.
 use Rattle.std.proofs.Common.{◌≡◌, ℕ, Bool, true, false, cond, List, [], ◌∷◌, ◌++◌, Option, Some, None, refl, sym, ap, ◌∙◌, bytes_eq}
-use Rattle.mails.specs.declared.mail.ToAgent.{ToAgent}
+use Rattle.messages.specs.declared.mail.ToAgent.{ToAgent}
 use Rattle.cluster_model.specs.Sides.{Run, SendHello, Side, SideStep, sends_nothing, side_step}
 use Rattle.cluster_model.specs.Masters.{AtSide, Moved, at_side, at_this_side, past_side, sending_more}
-use Rattle.agent_sides.specs.Looks.{at_name, value_of}
+use Rattle.master_agents.specs.Looks.{at_name, value_of}
 use Rattle.master_state.specs.States.{State}
 use Rattle.master_state.specs.Greetings.{greeted, greeted_as, hello}
 use Rattle.master_state.specs.Works.{Work, run_of, work_of}

@@ -2,3 +2,10 @@ pub mod Doings
 pub mod Moves
 pub mod Admissions
 pub mod Greeting
+pub mod Ordered
+pub mod Placed
+pub mod Leading
+pub mod Keeping
+pub mod OneRole
+pub mod Searches
+pub mod Clients

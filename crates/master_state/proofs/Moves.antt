@@ -4,16 +4,16 @@ use Rattle.std.specs.Prelude.{nat_lt}
 use Rattle.std.specs.List.{list_all}
 use Rattle.std.proofs.lemmas.Bool.{true≢false}
 use Rattle.std.proofs.lemmas.Bool.Decides.{nat_tests}
-use Rattle.mails.specs.declared.task.Offer.{Offer}
-use Rattle.mails.specs.declared.mail.Command.{Command}
-use Rattle.mails.specs.declared.mail.ToAgent.{ToAgent}
+use Rattle.messages.specs.declared.task.Offer.{Offer}
+use Rattle.messages.specs.declared.mail.Command.{Command}
+use Rattle.messages.specs.declared.mail.ToAgent.{ToAgent}
 use Rattle.cluster_model.specs.Ids.{bytes_before}
 use Rattle.cluster_model.specs.Sides.{Run, Side, SideStep, issue, sends_nothing, side_step}
 use Rattle.cluster_model.specs.Masters.{AtSide, Moved, at_side, at_this_side, move, move_all, past_side, withdraws_on}
 use Rattle.roster.specs.Sessions.{with_command}
-use Rattle.agent_sides.specs.Configs.{are_ordered}
-use Rattle.agent_sides.specs.Joined.{side_names}
-use Rattle.agent_sides.specs.Looks.{at_name, next_command, value_of, withdrawing}
+use Rattle.master_agents.specs.Configs.{are_ordered}
+use Rattle.master_agents.specs.Joined.{side_names}
+use Rattle.master_agents.specs.Looks.{at_name, next_command, value_of, withdrawing}
 use Rattle.master_state.specs.States.{mail_of}
 use Rattle.master_state.proofs.Doings.{none_more}
 

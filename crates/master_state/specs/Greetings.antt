@@ -1,8 +1,8 @@
 -- A Hello to an agent.
 use Rattle.std.specs.Prelude.{ℕ, List, Option, Some, None}
-use Rattle.mails.specs.declared.mail.MasterMail.TheVariants.{Hello}
-use Rattle.mails.specs.declared.mail.ToAgent.{ToAgent}
-use Rattle.agent_sides.specs.Looks.{value_of}
+use Rattle.messages.specs.declared.mail.MasterMail.TheVariants.{Hello}
+use Rattle.messages.specs.declared.mail.ToAgent.{ToAgent}
+use Rattle.master_agents.specs.Looks.{value_of}
 use Rattle.master_state.specs.States.{State, sent}
 
 abbrev pub hello : List ℕ → ℕ → ℕ → ToAgent

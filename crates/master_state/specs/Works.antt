@@ -1,10 +1,10 @@
 -- What a master holds, as the model of it has it, and what the model's steps make of that.
 use Rattle.std.specs.Prelude.{◌≡◌, suc, Bool, true, if◌then◌else◌, List, ◌++◌, Option, Some, None, option_map, Result, Ok, Err}
 use Rattle.names_core.specs.Ids.{Numbered}
-use Rattle.mails.specs.declared.refusal.MasterRefusal.{MasterRefusal}
-use Rattle.mails.specs.declared.refusal.MasterRefusal.TheVariants.{NotSubscribed, WrongStream, NoSuchFramework}
+use Rattle.messages.specs.declared.refusal.MasterRefusal.{MasterRefusal}
+use Rattle.messages.specs.declared.refusal.MasterRefusal.TheVariants.{NotSubscribed, WrongStream, NoSuchFramework}
 use Rattle.cluster_model.specs.Sides.{Run}
-use Rattle.cluster_model.specs.Masters.{Doing, Master, Moved, Registers, framework_of, is_torn, move_all}
+use Rattle.cluster_model.specs.Masters.{MasterEffect, Master, Moved, Registers, framework_of, is_torn, move_all}
 use Rattle.cluster_model.specs.Calls.{is_stream}
 use Rattle.master_state.specs.declared.fault.MasterFault.{MasterFault}
 use Rattle.master_state.specs.declared.fault.MasterFault.TheVariants.{OutOfMemory, Refused}
@@ -53,7 +53,7 @@ work_of s = record {
 }
 
 -- what a step of the model makes of it
-abbrev pub done : Doing → Work → Work
+abbrev pub done : MasterEffect → Work → Work
 done d w = record {
   moved = move_all d.moves w.moved;
   registers = d.registers;
@@ -64,7 +64,7 @@ done d w = record {
 
 -- a step was done, or it was refused and nothing changed; memory is refused only where the step
 -- isn't
-abbrev pub Gave : {T : Type 0} → Result T MasterFault → State → State → Doing → Type 0
+abbrev pub Gave : {T : Type 0} → Result T MasterFault → State → State → MasterEffect → Type 0
 Gave (Ok x) before after d = (d.refusal ≡ None) × (work_of after ≡ done d (work_of before))
 Gave (Err OutOfMemory) before after d = d.refusal ≡ None
 Gave (Err (Refused refusal)) before after d = (d.refusal ≡ Some refusal) × (after ≡ before)

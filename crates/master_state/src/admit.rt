@@ -5,7 +5,7 @@ ghost use Rattle.cluster_model.specs.Ids.{is_among};
 ghost use Rattle.master_state.specs.Works.{admission, admission_of, admission_on, master_of};
 
 use crate::state::State;
-use mails::MasterRefusal;
+use messages::MasterRefusal;
 use names_core::{FrameworkId, StreamId};
 
 fn admit_on(given: Option<StreamId>, open_stream: StreamId) -> Result<StreamId, MasterRefusal>

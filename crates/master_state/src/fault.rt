@@ -3,7 +3,7 @@
 ghost use Rattle.std.specs.Prelude.{◌≡◌};
 ghost use Rattle.master_state.specs.declared.fault.MasterFault.TheVariants.{OutOfMemory, Refused};
 
-use mails::MasterRefusal;
+use messages::MasterRefusal;
 use std::alloc::{AllocError, AllocFailed};
 use thiserror::Error;
 

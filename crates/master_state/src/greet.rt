@@ -4,10 +4,10 @@ ghost use Rattle.std.specs.Prelude.{◌≡◌, OnOk};
 ghost use Rattle.master_state.specs.Greetings.{greeted};
 
 use crate::state::State;
-use mails::{MasterMail, ToAgent};
+use messages::{MasterMail, ToAgent};
 use names_core::AgentName;
-use plain_data::Plain;
 use std::alloc::{AllocError, Global};
+use values::Plain;
 
 impl State {
     /// A Hello goes to an agent, where it is configured.

@@ -7,7 +7,9 @@ mod fault;
 mod greet;
 mod order;
 mod outputs;
+mod registry;
 mod state;
 
 pub use fault::MasterFault;
+pub use registry::{Frameworks, SearchHints, is_due, place_in, puts_are_changes, refuses};
 pub use state::{Outs, State};

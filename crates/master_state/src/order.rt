@@ -6,10 +6,10 @@ ghost use Rattle.cluster_model.specs.Sides.{is_named};
 ghost use Rattle.master_state.specs.States.{ordered, without_offers};
 
 use crate::state::State;
-use mails::{Command, MasterMail, ToAgent};
+use messages::{Command, MasterMail, ToAgent};
 use names_core::{AgentName, FrameworkId, OfferId};
-use plain_data::Plain;
 use std::alloc::{AllocError, Global};
+use values::Plain;
 
 impl State {
     /// A command goes to an agent, where it has an open session. `copy` is the same command again.

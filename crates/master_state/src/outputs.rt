@@ -5,9 +5,8 @@ ghost use Rattle.cluster_model.specs.Ids.{last_number};
 ghost use Rattle.master_state.specs.States.{closed, new_stream, opened, sent, event_sent, task_state_sent};
 
 use crate::state::State;
-use mails::ToAgent;
+use messages::{Event, StreamEvent, TaskStatus, ToAgent};
 use names_core::{AgentName, StreamId, TaskName, TaskState};
-use scheduler_events::{Event, StreamEvent, TaskStatus};
 use std::alloc::{AllocError, Global};
 
 impl State {

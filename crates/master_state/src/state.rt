@@ -3,14 +3,13 @@
 ghost use Rattle.std.specs.Prelude.{◌≡◌, IfOk};
 ghost use Rattle.master_state.specs.States.{cleared, fresh, no_outs};
 
-use agent_sides::{ConfiguredAgents, Sides};
-use frameworks::Frameworks;
-use listed::Listed;
-use mails::ToAgent;
+use crate::registry::Frameworks;
+use master_agents::{ConfiguredAgents, Sides};
+use messages::{StreamEvent, ToAgent};
 use names_core::{FrameworkId, Run, StreamId};
-use scheduler_events::StreamEvent;
 use std::alloc::{AllocError, Global};
 use std::mem;
+use values::Listed;
 
 /// The outputs of a step.
 #[derive(Drop)]

@@ -1,7 +1,7 @@
 -- What the command `calls` writes.
 use Rattle.std.specs.Prelude.{ℕ, List, Option}
 use Rattle.std.specs.Io.KnownBytes.{Appends}
-use Rattle.device_io.specs.Writes.{AppendsFront}
+use Rattle.frame_record.specs.Writes.{AppendsFront}
 use Rattle.frame_record.specs.declared.fault.FrameFault.{FrameFault}
 use Rattle.call_replies.specs.Replies.{IsAnswer}
 

@@ -1,8 +1,8 @@
 -- What is written once a cluster isn't served any more.
 use Rattle.std.specs.Prelude.{◌≡◌, ℕ, List, Option}
 use Rattle.std.specs.Io.KnownBytes.{Appends}
-use Rattle.recorded_clusters.specs.Recording.{Recorded, IsSound}
-use Rattle.replayed_clusters.specs.Tables.{table}
+use Rattle.cluster_core.specs.Recording.{Recorded, IsSound}
+use Rattle.replay_core.specs.Tables.{table}
 
 -- the text is the table at the end of a cluster's history,
 -- each entry of which is a legal step, and the cluster is safe

@@ -1,8 +1,8 @@
 -- Why a cluster isn't served.
 use Rattle.std.specs.Prelude.{Bool, true, false}
-use Rattle.agents_file.specs.declared.fault.AgentsFault.{AgentsFault}
-use Rattle.agents_file.specs.declared.fault.AgentsFault.TheVariants.{Lines, Config}
-use Rattle.record_folder.specs.declared.folder_fault.FolderFault.TheVariants.{TotalDiffers}
+use Rattle.step_text.specs.declared.agents.fault.AgentsFault.{AgentsFault}
+use Rattle.step_text.specs.declared.agents.fault.AgentsFault.TheVariants.{Lines, Config}
+use Rattle.keep_folder.specs.declared.folder_fault.FolderFault.TheVariants.{TotalDiffers}
 use Rattle.mesos_node.specs.declared.fault.ServeFault.{ServeFault}
 use Rattle.mesos_node.specs.declared.fault.ServeFault.TheVariants.{Agents, Folder}
 

@@ -4,11 +4,11 @@ ghost use Rattle.std.specs.Prelude.{◌≡◌};
 ghost use Rattle.mesos_node.specs.Refusals.{is_refusal, is_unlike};
 ghost use Rattle.mesos_node.specs.declared.fault.ServeFault.TheVariants.{Agents, Folder, Memory};
 
-use agents_file::{AgentsFault, RefusedFile};
-use record_folder::FolderFault;
+use keep_folder::FolderFault;
 use serving::ServingFault;
 use std::alloc::AllocError;
 use std::{fmt, io};
+use step_text::{AgentsFault, RefusedFile};
 
 /// Whether the text of the file of the agents isn't as it is to be.
 fn is_unlike(fault: &AgentsFault) -> bool

@@ -6,7 +6,7 @@ ghost use Rattle.std.specs.Io.KnownBytes.{Keeps};
 ghost use Rattle.std.specs.Net.Addr.{ipv4_octets};
 ghost use Rattle.std.specs.Net.Socket.{v4_ip, v4_port};
 ghost use Rattle.std.specs.Process.{exit_status};
-ghost use Rattle.cluster_openings.specs.Records.{AreRecordsOf};
+ghost use Rattle.cluster_agents.specs.Records.{AreRecordsOf};
 ghost use Rattle.cluster_model.specs.Openings.{GoodOpening};
 ghost use Rattle.mesos_node.specs.Statuses.{IsStatus, status_of_fault};
 ghost use Rattle.mesos_node.specs.Ends.{AppendsTable, IsEndTable};
@@ -14,14 +14,12 @@ ghost use Rattle.mesos_node.specs.Refusals.{is_refusal};
 
 use crate::ends::{FAILED, print_fault};
 use crate::fault::ServeFault;
-use agents_file::{AgentsFile, Config, read_agents};
-use cluster_core::Cluster;
+use cluster_channels::Queues;
+use cluster_core::{Cluster, RecordedCluster};
 use command_line::ServeOptions;
-use device_io::put;
-use post_rules::Queues;
-use record_folder::{Folder, open_folder};
-use recorded_clusters::RecordedCluster;
-use replayed_clusters::end_table;
+use frame_record::put;
+use keep_folder::{Folder, open_folder};
+use replay_core::end_table;
 use serving::{MemoryLimit, Pace, read_recorded, serve_cluster};
 use std::io::Write;
 use std::marker::Brand;
@@ -31,6 +29,7 @@ use std::sync::Wait;
 use std::sync::ledger::Blank;
 use std::thread::Threads;
 use std::time::Clock;
+use step_text::{AgentsFile, Config, read_agents};
 
 /// One part for each seat, and one for the desk.
 const PARTS: u64 = 1 << 32;

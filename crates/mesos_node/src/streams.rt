@@ -4,15 +4,15 @@
 ghost use Rattle.std.specs.Prelude.{◌≡◌, None, Some, IfSome, is_some, true};
 ghost use Rattle.std.specs.Io.KnownBytes.{Appends};
 ghost use Rattle.std.specs.Process.{exit_status};
-ghost use Rattle.device_io.specs.Writes.{AppendsFront};
+ghost use Rattle.frame_record.specs.Writes.{AppendsFront};
 ghost use Rattle.frame_record.specs.declared.fault.FrameFault.{FrameFault};
-ghost use Rattle.replays.specs.Replays.{replay_fault, replay_text};
+ghost use Rattle.replay_core.specs.Replays.{replay_fault, replay_text};
 ghost use Rattle.mesos_node.specs.Statuses.{IsStatus};
 ghost use Rattle.mesos_node.specs.Commands.{Answers, AnswersFront};
 
 use crate::ends::print_fault;
 use call_replies::calls;
-use replays::replay;
+use replay_core::replay;
 use std::io::{Read, Write};
 use std::process::ExitCode;
 

@@ -1,3 +1,4 @@
 pub mod IdTexts
 pub mod Order
 pub mod UpdateTexts
+pub mod Weighing

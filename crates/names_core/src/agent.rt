@@ -5,11 +5,11 @@ ghost use Rattle.names_core.specs.Names.{is_name, is_configured, bytes_before};
 
 use crate::fault::NameFault;
 use crate::name::{is_configured_name, is_plain_name, is_text_before, name_number};
-use plain_data::Plain;
 use std::alloc::{AllocError, Global};
 use std::fmt;
 use std::hash::{Hash, Hasher};
 use std::marker::Model;
+use values::Plain;
 
 /// The name of an agent, its `agent_id`: 1 to 255 bytes of UTF-8 without control characters,
 /// space, slash and backslash.

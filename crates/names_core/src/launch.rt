@@ -6,9 +6,9 @@ ghost use Rattle.names_core.specs.Ids.{InRange, id_text, id_of};
 
 use crate::fault::NameFault;
 use crate::numbered::{numbers_of, text_of};
-use plain_data::Plain;
 use std::alloc::Global;
 use std::marker::Model;
+use values::Plain;
 
 /// The launch of a task, counted from 1 in each run of the master.
 /// Task names may be used again; a launch key never is.

@@ -14,6 +14,7 @@ mod state;
 mod stream;
 mod task;
 mod update;
+mod weights;
 
 pub use agent::AgentName;
 pub use fault::NameFault;
@@ -27,3 +28,4 @@ pub use state::{TaskState, one_state_text};
 pub use stream::StreamId;
 pub use task::TaskName;
 pub use update::{UpdateId, one_update_text};
+pub use weights::Weights;

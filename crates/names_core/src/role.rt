@@ -5,9 +5,9 @@ ghost use Rattle.names_core.specs.Names.{bytes_before, is_role};
 
 use crate::fault::NameFault;
 use crate::name::{is_role_name, is_text_before};
-use plain_data::Plain;
 use std::alloc::{AllocError, Global};
 use std::marker::Model;
+use values::Plain;
 
 /// The name of a role: 1 to 255 bytes of UTF-8 without control characters, space and backslash.
 /// A slash is a plain character, and `*` is the default role.

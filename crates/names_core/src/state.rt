@@ -4,7 +4,7 @@ ghost use Rattle.std.specs.Prelude.{◌≡◌, Some};
 ghost use Rattle.names_core.specs.States.{state_text, state_of, is_terminal};
 ghost use Rattle.names_core.specs.declared.state.TaskState.{TaskState};
 
-use plain_data::Plain;
+use values::Plain;
 
 /// The task states of the Mesos scheduler HTTP API that this cluster manager reports.
 #[derive(Clone, Copy, Debug, Drop, PartialEq, Eq)]

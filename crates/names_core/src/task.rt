@@ -5,10 +5,10 @@ ghost use Rattle.names_core.specs.Names.{is_name};
 
 use crate::fault::NameFault;
 use crate::name::{is_plain_name, name_number};
-use plain_data::Plain;
 use std::alloc::{AllocError, Global};
 use std::fmt;
 use std::marker::Model;
+use values::Plain;
 
 /// The name of a task, its `task_id`, which its framework chooses:
 /// 1 to 255 bytes of UTF-8 without control characters, space, slash and backslash.

@@ -8,10 +8,10 @@ use crate::fault::NameFault;
 use crate::launch::LaunchKey;
 use base64::DecodeAllocError;
 use base64::engine::general_purpose::STANDARD;
-use plain_data::Plain;
 use std::alloc::Global;
 use std::marker::Model;
 use uuid::Uuid;
+use values::Plain;
 
 /// Update number `k` of a launch, counted from 0; at most 4,095.
 ///

@@ -9,8 +9,8 @@ use Rattle.quantity.specs.declared.rows.Row.{Row}
 use Rattle.quantity.specs.Rows.{amount, covers, name_order, part_of, rest_of, AreRows}
 use Rattle.quantity.proofs.Amounts.{covers_is_at_least, amount-above, amount-append, amount-cons}
 use Rattle.quantity.proofs.Rests.{amount-rest}
-use Rattle.mails.specs.declared.task.Offer.{Offer}
-use Rattle.mails.specs.declared.task.Booked.{Booked}
+use Rattle.messages.specs.declared.task.Offer.{Offer}
+use Rattle.messages.specs.declared.task.Booked.{Booked}
 use Rattle.cluster_model.specs.Sides.{offer_rows, job_rows, unended}
 use Rattle.offer_tables.specs.Accounts.{taken_by, unended_rows}
 use Rattle.offer_tables.specs.Rows.{GivesBack, IsEmptied, IsGivenBack, IsLeft, IsReset, IsRow, TakesMore, amounts_left, has_room_in, left_at, left_in}

@@ -3,8 +3,8 @@ use Rattle.std.proofs.Common.{◌≡◌, ℕ, suc, ◌<◌, false, List, [], ◌
 use Rattle.std.proofs.lemmas.Map.Keys.{IsDistinct-push}
 use Rattle.std.specs.Cmp.Lexicographic.{nat_list_eq_equiv}
 use Rattle.std.specs.List.{IsDistinct, list_any}
-use Rattle.mails.specs.declared.task.Offer.{Offer}
-use Rattle.mails.specs.declared.task.Booked.{Booked}
+use Rattle.messages.specs.declared.task.Offer.{Offer}
+use Rattle.messages.specs.declared.task.Booked.{Booked}
 use Rattle.offer_tables.specs.Rows.{AreEmpty, IsBook, IsFirst, IsRow, Rows, SameOrMore, account, accounts, is_row_named}
 use Rattle.offer_tables.specs.declared.agents.AgentRow.{AgentRow}
 use Rattle.offer_tables.proofs.Placed.{bytes_turned}

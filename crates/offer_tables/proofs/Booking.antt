@@ -4,13 +4,13 @@ use Rattle.std.proofs.lemmas.Bool.{cases_Bool}
 use Rattle.std.specs.List.{list_any}
 use Rattle.quantity.specs.Rows.{rest_of, AreRows}
 use Rattle.names_core.specs.Ids.{Numbered, same}
-use Rattle.mails.specs.declared.task.Offer.{Offer}
-use Rattle.mails.specs.declared.task.Booked.{Booked}
-use Rattle.offer_rows.specs.declared.located.Located.{Located}
-use Rattle.offer_rows.specs.Lists.{same_id, at_place, list_at, first, located_or, find_from}
-use Rattle.offer_rows.proofs.Changing.{same_turned}
-use Rattle.offer_rows.proofs.Placing.{absent_head}
-use Rattle.offer_rows.proofs.Taking.{place_from}
+use Rattle.messages.specs.declared.task.Offer.{Offer}
+use Rattle.messages.specs.declared.task.Booked.{Booked}
+use Rattle.offer_book.specs.declared.located.Located.{Located}
+use Rattle.offer_book.specs.Lists.{same_id, at_place, list_at, first, located_or, find_from}
+use Rattle.offer_book.proofs.Changing.{same_turned}
+use Rattle.offer_book.proofs.Placing.{absent_head}
+use Rattle.offer_book.proofs.Taking.{place_from}
 use Rattle.offer_tables.specs.Found.{made, made_or, offer_of, offers_on, place, placed_or, task_of, tasks_on}
 use Rattle.offer_tables.specs.Accounts.{Account, is_offered_as, has_key, with_offer, with_task, fits, taken_by, unended_rows}
 use Rattle.offer_tables.specs.Books.{is_offered, is_booked, offered, offered_at, booked, booked_at, changed, changed_at, free_of, free_at}

@@ -4,14 +4,14 @@ use Rattle.std.proofs.lemmas.Bool.{cases_Bool, true≢false}
 use Rattle.std.specs.Result.{IsErrAnd, IsOk}
 use Rattle.quantity.specs.declared.rows.Row.{Row}
 use Rattle.names_core.specs.Ids.{Numbered, same}
-use Rattle.mails.specs.declared.task.Offer.{Offer}
-use Rattle.mails.specs.declared.task.Booked.{Booked}
-use Rattle.offer_rows.specs.declared.located.Located.{Located}
-use Rattle.offer_rows.specs.Lists.{same_id, at_place, list_at, first, without, find_from, Once}
-use Rattle.offer_rows.specs.Changes.{ended}
-use Rattle.offer_rows.proofs.Changing.{same_turned}
-use Rattle.offer_rows.proofs.Taking.{here_is, map_in, without_in}
-use Rattle.offer_rows.proofs.Summing.{sum_map, sum_without}
+use Rattle.messages.specs.declared.task.Offer.{Offer}
+use Rattle.messages.specs.declared.task.Booked.{Booked}
+use Rattle.offer_book.specs.declared.located.Located.{Located}
+use Rattle.offer_book.specs.Lists.{same_id, at_place, list_at, first, without, find_from, Once}
+use Rattle.offer_book.specs.Changes.{ended}
+use Rattle.offer_book.proofs.Changing.{same_turned}
+use Rattle.offer_book.proofs.Taking.{here_is, map_in, without_in}
+use Rattle.offer_book.proofs.Summing.{sum_map, sum_without}
 use Rattle.offer_tables.specs.Accounts.{Account, is_offered_as, has_key, unended_rows}
 use Rattle.offer_tables.specs.Faults.{IsRefusal}
 use Rattle.offer_tables.specs.Rows.{AreEmpty, ChangedAt, IsBook, IsGivenBack, IsRow, Rows, account, accounts}

@@ -2,9 +2,9 @@
 use Rattle.std.proofs.Common.{◌≡◌, ℕ, zero, suc, ◌<◌, ◌≤◌, Bool, true, List, [], ◌∷◌, map, length, get_or, None, Some, bytes_eq, refl, sym, ap, ◌∙◌, subst, arith, find}
 use Rattle.std.proofs.Math.ListN.{set}
 use Rattle.std.proofs.lemmas.Bool.{and_parts}
-use Rattle.mails.specs.declared.task.Offer.{Offer}
-use Rattle.mails.specs.declared.task.Booked.{Booked}
-use Rattle.offer_rows.specs.Lists.{at_place, list_at}
+use Rattle.messages.specs.declared.task.Offer.{Offer}
+use Rattle.messages.specs.declared.task.Booked.{Booked}
+use Rattle.offer_book.specs.Lists.{at_place, list_at}
 use Rattle.offer_tables.specs.Accounts.{Account, is_agent}
 use Rattle.offer_tables.specs.Books.{at_first}
 use Rattle.offer_tables.specs.Rows.{ChangedAt, IsFirst, IsPlaceOf, IsRow, Rows, account, accounts, is_row_of}

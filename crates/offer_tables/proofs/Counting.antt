@@ -1,9 +1,9 @@
 -- How many tasks are booked, and the accounts at places.
 use Rattle.std.proofs.Common.{◌≡◌, ℕ, zero, suc, ◌+◌, ◌<◌, ◌≤◌, List, [], ◌∷◌, length, take, get_or, slice_get, None, Some, refl, ap, arith}
 use Rattle.std.proofs.lemmas.List.{length-append, length-map}
-use Rattle.mails.specs.declared.task.Offer.{Offer}
-use Rattle.mails.specs.declared.task.Booked.{Booked}
-use Rattle.offer_rows.specs.Lists.{list_at}
+use Rattle.messages.specs.declared.task.Offer.{Offer}
+use Rattle.messages.specs.declared.task.Booked.{Booked}
+use Rattle.offer_book.specs.Lists.{list_at}
 use Rattle.offer_tables.specs.Accounts.{Account}
 use Rattle.offer_tables.specs.Found.{place, tasks_on}
 use Rattle.offer_tables.specs.Held.{all_placed, placed_on}

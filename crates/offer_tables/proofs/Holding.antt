@@ -5,22 +5,22 @@ use Rattle.std.proofs.lemmas.List.{append-nil}
 use Rattle.std.proofs.lemmas.Map.Keys.{IsDistinct-head, IsDistinct-tail}
 use Rattle.std.specs.List.{IsDistinct, AllByRecursion}
 use Rattle.names_core.specs.Ids.{Numbered}
-use Rattle.mails.specs.declared.task.Offer.{Offer}
-use Rattle.mails.specs.declared.task.Booked.{Booked}
+use Rattle.messages.specs.declared.task.Offer.{Offer}
+use Rattle.messages.specs.declared.task.Booked.{Booked}
 use Rattle.cluster_model.specs.Masters.{Placed, first_placed, is_task_of, stands_before}
-use Rattle.offer_rows.specs.declared.located.Located.{Located}
-use Rattle.offer_rows.specs.Lists.{same_id, ids_of, first, located_or, find_from, Once}
-use Rattle.offer_rows.specs.Names.{has_name, is_framework_of as rows_of}
-use Rattle.offer_rows.specs.Held.{goes_before, IsHeld, IsTaskOf}
-use Rattle.offer_rows.proofs.Ids.{same_id_equiv, same_id-true, same_id-refl}
-use Rattle.offer_rows.proofs.Changing.{same_turned}
-use Rattle.offer_rows.proofs.Choosing.{not_before_itself, onward, one_key}
+use Rattle.offer_book.specs.declared.located.Located.{Located}
+use Rattle.offer_book.specs.Lists.{same_id, ids_of, first, located_or, find_from, Once}
+use Rattle.offer_book.specs.Names.{has_name, is_framework_of as rows_of}
+use Rattle.offer_book.specs.Held.{goes_before, IsHeld, IsTaskOf}
+use Rattle.offer_book.proofs.Ids.{same_id_equiv, same_id-true, same_id-refl}
+use Rattle.offer_book.proofs.Changing.{same_turned}
+use Rattle.offer_book.proofs.Choosing.{not_before_itself, onward, one_key}
 use Rattle.offer_tables.specs.Accounts.{Account, has_key}
 use Rattle.offer_tables.specs.Found.{place, placed_or, task_of}
 use Rattle.offer_tables.specs.Held.{AreKeyed, all_placed, held, is_framework_of, placed_of}
 use Rattle.offer_tables.specs.Rows.{Rows, accounts}
 use Rattle.offer_tables.specs.declared.agents.AgentRow.{AgentRow}
-use Rattle.offer_rows.proofs.Taking.{here_is, place_from}
+use Rattle.offer_book.proofs.Taking.{here_is, place_from}
 use Rattle.offer_tables.proofs.Booking.{found_within, task_found, task_nowhere}
 use Rattle.offer_tables.proofs.Books.{task_within}
 use Rattle.offer_tables.proofs.Changed.{settled, slot}

@@ -12,3 +12,4 @@ pub mod Whereabouts
 pub mod Ridding
 pub mod Reopening
 pub mod Counting
+pub mod Ended

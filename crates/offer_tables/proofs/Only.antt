@@ -4,9 +4,9 @@ use Rattle.std.proofs.lemmas.Bool.{cases_Bool, true≢false, and_parts, eqb-true
 use Rattle.std.proofs.lemmas.Map.Keys.{IsDistinct-head, IsDistinct-tail}
 use Rattle.std.specs.List.{AllByRecursion, IsDistinct}
 use Rattle.names_core.specs.Ids.{Numbered, same}
-use Rattle.offer_rows.specs.Lists.{same_id, at_place}
-use Rattle.offer_rows.proofs.Changing.{same_turned}
-use Rattle.offer_rows.proofs.Ids.{same_id_equiv, same_id-refl}
+use Rattle.offer_book.specs.Lists.{same_id, at_place}
+use Rattle.offer_book.proofs.Changing.{same_turned}
+use Rattle.offer_book.proofs.Ids.{same_id_equiv, same_id-refl}
 use Rattle.offer_tables.specs.Accounts.{Account, without_at}
 use Rattle.offer_tables.specs.Found.{there}
 use Rattle.offer_tables.specs.Places.{IsNowhere, IsOnlyFrom}

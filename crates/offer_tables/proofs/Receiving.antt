@@ -4,13 +4,13 @@ use Rattle.std.proofs.lemmas.Bool.{cases_Bool}
 use Rattle.quantity.specs.Rows.{amount}
 use Rattle.names_core.specs.Ids.{Numbered, same}
 use Rattle.names_core.specs.declared.state.TaskState.{TaskState}
-use Rattle.mails.specs.declared.task.Offer.{Offer}
-use Rattle.mails.specs.declared.task.Booked.{Booked}
+use Rattle.messages.specs.declared.task.Offer.{Offer}
+use Rattle.messages.specs.declared.task.Booked.{Booked}
 use Rattle.cluster_model.specs.Sides.{received_update}
-use Rattle.offer_rows.specs.declared.located.Located.{Located}
-use Rattle.offer_rows.specs.Lists.{same_id, list_at, find_from, Once}
-use Rattle.offer_rows.proofs.Changing.{same_turned, received_stays}
-use Rattle.offer_rows.proofs.Taking.{map_in}
+use Rattle.offer_book.specs.declared.located.Located.{Located}
+use Rattle.offer_book.specs.Lists.{same_id, list_at, find_from, Once}
+use Rattle.offer_book.proofs.Changing.{same_turned, received_stays}
+use Rattle.offer_book.proofs.Taking.{map_in}
 use Rattle.offer_tables.specs.Accounts.{unended_rows}
 use Rattle.offer_tables.specs.Rows.{ChangedAt, IsBook, IsGivenBack}
 use Rattle.offer_tables.specs.declared.agents.AgentRow.{AgentRow}

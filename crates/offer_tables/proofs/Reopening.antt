@@ -10,11 +10,11 @@ use Rattle.quantity.specs.declared.rows.Row.{Row}
 use Rattle.quantity.specs.Rows.{amount, covers}
 use Rattle.quantity.proofs.Amounts.{amount-append}
 use Rattle.names_core.specs.Ids.{Numbered, same}
-use Rattle.mails.specs.declared.task.Booked.{Booked}
+use Rattle.messages.specs.declared.task.Booked.{Booked}
 use Rattle.cluster_model.specs.Sides.{job_rows, unended}
-use Rattle.offer_rows.specs.Lists.{same_id}
-use Rattle.offer_rows.proofs.Changing.{same_turned}
-use Rattle.offer_rows.proofs.Ids.{same_id_equiv}
+use Rattle.offer_book.specs.Lists.{same_id}
+use Rattle.offer_book.proofs.Changing.{same_turned}
+use Rattle.offer_book.proofs.Ids.{same_id_equiv}
 use Rattle.offer_tables.specs.Accounts.{Account, fits, has_key, is_agent, reopened, unended_rows, with_task}
 use Rattle.offer_tables.specs.Books.{agent_of, at_first, booked, booked_at, changed_at, is_booked, reopened_on}
 use Rattle.offer_tables.specs.Reports.{AreBookableOn}

@@ -5,14 +5,14 @@ use Rattle.std.specs.List.{AllByRecursion, list_any}
 use Rattle.names_core.specs.Ids.{Numbered, same}
 use Rattle.names_core.specs.declared.state.TaskState.{TaskState}
 use Rattle.names_core.specs.States.{is_terminal}
-use Rattle.mails.specs.declared.task.Offer.{Offer}
-use Rattle.mails.specs.declared.task.Booked.{Booked}
+use Rattle.messages.specs.declared.task.Offer.{Offer}
+use Rattle.messages.specs.declared.task.Booked.{Booked}
 use Rattle.cluster_model.specs.Ids.{is_among}
 use Rattle.cluster_model.specs.Sides.{is_named, received_update}
 use Rattle.cluster_model.specs.Masters.{is_of}
-use Rattle.offer_rows.specs.Lists.{at_place}
-use Rattle.offer_rows.proofs.Changing.{same_turned}
-use Rattle.offer_rows.proofs.Ids.{same_id_equiv}
+use Rattle.offer_book.specs.Lists.{at_place}
+use Rattle.offer_book.proofs.Changing.{same_turned}
+use Rattle.offer_book.proofs.Ids.{same_id_equiv}
 use Rattle.offer_tables.specs.Accounts.{Account, has_key, is_acknowledged, is_offered_as, without_key, without_named, without_offer}
 use Rattle.offer_tables.specs.Books.{is_booked, is_offered}
 use Rattle.offer_tables.specs.Faults.{IsDue}

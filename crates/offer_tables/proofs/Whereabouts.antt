@@ -4,14 +4,14 @@ use Rattle.std.proofs.lemmas.Bool.{cases_Bool, true≢false}
 use Rattle.std.proofs.lemmas.Map.Keys.{IsDistinct-head, IsDistinct-tail}
 use Rattle.std.specs.List.{AllByRecursion, IsDistinct}
 use Rattle.names_core.specs.Ids.{Numbered, same}
-use Rattle.mails.specs.declared.task.Offer.{Offer}
-use Rattle.mails.specs.declared.task.Booked.{Booked}
-use Rattle.offer_rows.specs.declared.located.Located.{Located}
-use Rattle.offer_rows.specs.Lists.{same_id, ids_of, list_at, first, find_from, Once}
-use Rattle.offer_rows.proofs.Changing.{same_turned}
-use Rattle.offer_rows.proofs.Ids.{same_id-true}
-use Rattle.offer_rows.proofs.Placing.{absent_head}
-use Rattle.offer_rows.specs.Lists.{at_place}
+use Rattle.messages.specs.declared.task.Offer.{Offer}
+use Rattle.messages.specs.declared.task.Booked.{Booked}
+use Rattle.offer_book.specs.declared.located.Located.{Located}
+use Rattle.offer_book.specs.Lists.{same_id, ids_of, list_at, first, find_from, Once}
+use Rattle.offer_book.proofs.Changing.{same_turned}
+use Rattle.offer_book.proofs.Ids.{same_id-true}
+use Rattle.offer_book.proofs.Placing.{absent_head}
+use Rattle.offer_book.specs.Lists.{at_place}
 use Rattle.offer_tables.specs.Accounts.{Account, is_agent}
 use Rattle.offer_tables.specs.Books.{agent_of, at_first, changed, changed_at}
 use Rattle.offer_tables.proofs.Changed.{agent_nowhere}

@@ -4,13 +4,13 @@ use Rattle.names_core.specs.Ids.{Numbered, same}
 use Rattle.names_core.specs.declared.state.TaskState.{TaskState}
 use Rattle.quantity.specs.declared.rows.Row.{Row}
 use Rattle.quantity.specs.Rows.{covers, rest_of}
-use Rattle.mails.specs.declared.task.Offer.{Offer}
-use Rattle.mails.specs.declared.task.Booked.{Booked}
+use Rattle.messages.specs.declared.task.Offer.{Offer}
+use Rattle.messages.specs.declared.task.Booked.{Booked}
 use Rattle.cluster_model.specs.Sides.{unended, job_rows, offer_rows, received_update, forget_all, is_named}
 use Rattle.cluster_model.specs.Masters.{is_of}
-use Rattle.mails.specs.declared.mail.Command.{Command}
+use Rattle.messages.specs.declared.mail.Command.{Command}
 use Rattle.names_core.specs.States.{is_terminal}
-use Rattle.offer_rows.specs.Changes.{ended}
+use Rattle.offer_book.specs.Changes.{ended}
 
 pub record Account : Type 0 where
   pub name : List ℕ

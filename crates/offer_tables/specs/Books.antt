@@ -3,11 +3,11 @@ use Rattle.std.specs.Prelude.{ℕ, Bool, if◌then◌else◌, List, [], ◌∷�
 use Rattle.std.specs.List.{list_any, find}
 use Rattle.names_core.specs.Ids.{Numbered}
 use Rattle.quantity.specs.declared.rows.Row.{Row}
-use Rattle.mails.specs.declared.task.Offer.{Offer}
-use Rattle.mails.specs.declared.task.Booked.{Booked}
-use Rattle.offer_rows.specs.declared.tasks.TaskUpdate.{TaskUpdate}
+use Rattle.messages.specs.declared.task.Offer.{Offer}
+use Rattle.messages.specs.declared.task.Booked.{Booked}
+use Rattle.offer_book.specs.declared.tasks.TaskUpdate.{TaskUpdate}
 use Rattle.offer_tables.specs.Accounts.{Account, new_account, dropped, free, fits, with_offer, without_offer, with_task, is_offered_as, has_key, with_ended, without_key, reopened, receiving, unended_rows, after_commands, without_named}
-use Rattle.mails.specs.declared.mail.Command.{Command}
+use Rattle.messages.specs.declared.mail.Command.{Command}
 pub use Rattle.offer_tables.specs.Accounts.{is_agent}
 use Rattle.offer_tables.specs.declared.fault.BookFault.{BookFault}
 use Rattle.offer_tables.specs.declared.fault.BookFault.TheVariants.{Unknown, NoRoom, Twice}

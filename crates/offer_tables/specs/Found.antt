@@ -2,8 +2,8 @@
 use Rattle.std.specs.Prelude.{ℕ, zero, suc, List, [], ◌∷◌, Option, Some, None}
 use Rattle.std.specs.List.{find}
 use Rattle.names_core.specs.Ids.{Numbered}
-use Rattle.mails.specs.declared.task.Offer.{Offer}
-use Rattle.mails.specs.declared.task.Booked.{Booked}
+use Rattle.messages.specs.declared.task.Offer.{Offer}
+use Rattle.messages.specs.declared.task.Booked.{Booked}
 use Rattle.cluster_model.specs.Masters.{Placed}
 use Rattle.cluster_model.specs.Events.{MadeOffer}
 use Rattle.offer_tables.specs.Accounts.{Account, is_offered_as, has_key}

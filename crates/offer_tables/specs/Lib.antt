@@ -6,3 +6,4 @@ pub mod Held
 pub mod Rows
 pub mod Places
 pub mod Reports
+pub mod Laws

@@ -3,9 +3,9 @@ use Rattle.std.specs.Prelude.{◌≡◌, ℕ, true, false, List, [], map}
 use Rattle.std.specs.List.{AllByRecursion, IsDistinct}
 use Rattle.quantity.specs.declared.rows.Row.{Row}
 use Rattle.quantity.specs.Rows.{covers}
-use Rattle.mails.specs.declared.task.Booked.{Booked}
+use Rattle.messages.specs.declared.task.Booked.{Booked}
 use Rattle.cluster_model.specs.Sides.{job_rows, unended}
-use Rattle.offer_rows.specs.Lists.{same_id}
+use Rattle.offer_book.specs.Lists.{same_id}
 use Rattle.offer_tables.specs.Accounts.{Account, is_agent, reopened}
 use Rattle.offer_tables.specs.Books.{at_first, is_booked}
 

@@ -5,8 +5,8 @@ use Rattle.std.specs.Cmp.Lexicographic.{pointwise}
 use Rattle.std.specs.Prelude.{bytes_eq}
 use Rattle.quantity.specs.declared.rows.Row.{Row}
 use Rattle.quantity.specs.Rows.{amount, covers, IsPlus}
-use Rattle.mails.specs.declared.task.Offer.{Offer}
-use Rattle.mails.specs.declared.task.Booked.{Booked}
+use Rattle.messages.specs.declared.task.Offer.{Offer}
+use Rattle.messages.specs.declared.task.Booked.{Booked}
 use Rattle.offer_tables.specs.Accounts.{Account, taken_by}
 use Rattle.offer_tables.specs.declared.agents.AgentRow.{AgentRow}
 

@@ -9,7 +9,7 @@ ghost use Rattle.offer_tables.specs.Held.{all_placed};
 use crate::agents::AgentRow;
 use crate::book::OfferBook;
 use names_core::AgentName;
-use offer_rows::{BookedTasks, Offers, OffersAt, TasksAt};
+use offer_book::{BookedTasks, Offers, OffersAt, TasksAt};
 use quantity::Resources;
 use std::alloc::{AllocError, Global};
 use std::marker::Model;
@@ -25,7 +25,7 @@ pub struct AccountAt<'a> {
 }
 
 impl<'a> Model for AccountAt<'a> {
-    ghost use Rattle.offer_rows.specs.Lists.{list_at};
+    ghost use Rattle.offer_book.specs.Lists.{list_at};
     ghost use Rattle.offer_tables.specs.Accounts.{Account};
     ghost use Rattle.offer_tables.specs.Rows.{IsRow, account};
 

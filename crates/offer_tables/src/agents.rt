@@ -8,7 +8,7 @@ ghost use Rattle.offer_tables.specs.Rows.{ChangedAt, IsEmptied, IsFirst, IsGiven
 
 use crate::free_part::FreePart;
 use indexmap::IndexSet;
-use mails::Booked;
+use messages::Booked;
 use names_core::AgentName;
 use quantity::Resources;
 use std::alloc::Global;

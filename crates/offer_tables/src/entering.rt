@@ -8,10 +8,10 @@ use crate::agents::AgentRow;
 use crate::free_part::FreePart;
 use indexmap::IndexSet;
 use names_core::AgentName;
-use offer_rows::{BookedTasks, Offers};
-use plain_data::Plain;
+use offer_book::{BookedTasks, Offers};
 use quantity::Resources;
 use std::alloc::{AllocError, Global};
+use values::Plain;
 
 fn add_offers_place(offers: &mut Offers, alloc: Global, place: usize) -> Result<(), AllocError>
     requires { place ≤ length offers.old }

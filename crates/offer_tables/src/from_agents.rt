@@ -1,8 +1,8 @@
 //! What the master receives from an agent: sessions, updates and counts of applied commands.
 
 ghost use Rattle.std.specs.Prelude.{◌≡◌, ◌==◌, ◌&&◌, ◌<◌, ◌⊎◌, ◌∷◌, [], ℕ, true, Ok, length, take, OnOk, OnErr, IfErr};
-ghost use Rattle.mails.specs.declared.mail.Command.TheVariants.{Ack, EndFramework};
-ghost use Rattle.offer_rows.specs.Lists.{at_place};
+ghost use Rattle.messages.specs.declared.mail.Command.TheVariants.{Ack, EndFramework};
+ghost use Rattle.offer_book.specs.Lists.{at_place};
 ghost use Rattle.offer_tables.specs.Accounts.{after_commands, is_acknowledged, is_of_framework, receiving, reopened, without_task_at};
 ghost use Rattle.offer_tables.specs.Books.{applied_on, received_on, reopened_on};
 ghost use Rattle.offer_tables.specs.Found.{tasks_on};
@@ -11,12 +11,12 @@ ghost use Rattle.offer_tables.specs.Reports.{AreBookableOn};
 
 use crate::book::OfferBook;
 use crate::fault::BookFault;
-use listed::Listed;
-use mails::{Booked, Command};
+use messages::{Booked, Command};
 use names_core::{AgentName, FrameworkId, LaunchKey};
-use offer_rows::{Located, TaskUpdate};
+use offer_book::{Located, TaskUpdate};
 use quantity::Resources;
 use std::alloc::Global;
+use values::Listed;
 
 fn is_acknowledged(task: &Booked, k: u32) -> bool
     ensures { result ≡ is_acknowledged k task.now }

@@ -3,7 +3,7 @@
 use crate::book::OfferBook;
 use crate::fault::BookFault;
 use crate::plain::{Entry, Plain};
-use mails::{Booked, Command, Job, Offer};
+use messages::{Booked, Command, Job, Offer};
 use names_core::{AgentName, FrameworkId, LaunchKey, OfferId, TaskName, TaskState};
 use quantity::Resources;
 use std::alloc::Global;

@@ -11,6 +11,7 @@ mod free_part;
 mod from_agents;
 #[cfg(test)]
 mod generated;
+mod laws;
 mod places;
 #[cfg(test)]
 mod plain;
@@ -21,4 +22,5 @@ mod withdrawing;
 pub use account::AccountAt;
 pub use book::OfferBook;
 pub use fault::BookFault;
-pub use offer_rows::{Located, OffersAt, TaskUpdate, TasksAt};
+pub use laws::ended_tasks_take_nothing;
+pub use offer_book::{Located, OffersAt, TaskUpdate, TasksAt};

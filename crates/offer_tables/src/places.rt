@@ -11,9 +11,9 @@ ghost use Rattle.offer_tables.specs.Places.{IsAgentAt, IsNowhere, IsOnlyFrom};
 
 use crate::agents;
 use crate::book::OfferBook;
-use mails::{Booked, Offer};
+use messages::{Booked, Offer};
 use names_core::{AgentName, LaunchKey, OfferId};
-use offer_rows::Located;
+use offer_book::Located;
 
 impl OfferBook {
     /// The place of the agent of a name, if it is in.

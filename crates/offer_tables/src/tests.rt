@@ -2,9 +2,9 @@
 
 use crate::book::OfferBook;
 use crate::fault::BookFault;
-use mails::{Booked, Job, Offer};
+use messages::{Booked, Job, Offer};
 use names_core::{AgentName, FrameworkId, LaunchKey, OfferId, TaskName, TaskState};
-use offer_rows::TaskUpdate;
+use offer_book::TaskUpdate;
 use quantity::Resources;
 use std::alloc::Global;
 use std::test::Fail;

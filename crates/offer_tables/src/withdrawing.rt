@@ -2,7 +2,7 @@
 
 ghost use Rattle.std.specs.Prelude.{◌≡◌, ◌==◌, ◌&&◌, ◌<◌, ◌∷◌, [], Ok, map, length, OnOk, OnErr, IfErr};
 ghost use Rattle.cluster_model.specs.Masters.{is_of};
-ghost use Rattle.offer_rows.specs.Lists.{at_place};
+ghost use Rattle.offer_book.specs.Lists.{at_place};
 ghost use Rattle.offer_tables.specs.Accounts.{without_named, without_offer_at, without_offers_of};
 ghost use Rattle.offer_tables.specs.Books.{withdrawn_on};
 ghost use Rattle.offer_tables.specs.Found.{offers_on};
@@ -10,9 +10,9 @@ ghost use Rattle.offer_tables.specs.Faults.{IsDue};
 
 use crate::book::OfferBook;
 use crate::fault::BookFault;
-use mails::Offer;
+use messages::Offer;
 use names_core::{AgentName, FrameworkId, OfferId};
-use offer_rows::Located;
+use offer_book::Located;
 
 fn is_to(offer: &Offer, framework: FrameworkId) -> bool
     ensures { result ≡ is_of framework offer.now }

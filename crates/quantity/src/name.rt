@@ -8,10 +8,10 @@ ghost use Rattle.quantity.specs.Names.{is_name_byte, is_resource_name, name_of};
 ghost use Rattle.quantity.specs.Texts.{bytes_of};
 
 use crate::fault::QuantityFault;
-use plain_data::Plain;
 use std::alloc::{AllocError, Global};
 use std::fmt;
 use std::marker::Model;
+use values::Plain;
 
 /// A text. The names that most agents have take no memory.
 #[derive(Drop)]

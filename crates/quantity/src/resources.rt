@@ -8,9 +8,9 @@ ghost use Rattle.quantity.specs.Laws.{AtLeast};
 use crate::fault::QuantityFault;
 use crate::rows::Row;
 use crate::{name, rows};
-use plain_data::Plain;
 use std::alloc::{AllocError, Global};
 use std::marker::Model;
+use values::Plain;
 
 /// Amounts of named resources: at most eight names, each with an amount from 1 to 2^40.
 #[derive(Debug)]
@@ -144,7 +144,7 @@ impl Clone for Resources {
 }
 
 impl PartialEq for Resources {
-    ghost use Rattle.plain_data.specs.Deciding.{per_from_decides};
+    ghost use Rattle.values.specs.Deciding.{per_from_decides};
     ghost use Rattle.std.proofs.Common.{rules};
     ghost use Rattle.std.specs.Cmp.Lexicographic.{pointwise, pointwise_decides};
 

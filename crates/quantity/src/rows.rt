@@ -11,8 +11,8 @@ ghost use Rattle.quantity.specs.Merging.{is_below, count_below, rows_from, front
 
 use crate::fault::QuantityFault;
 use crate::name::ResourceName;
-use plain_data::{Plain, push_copies};
 use std::alloc::{AllocError, Global};
+use values::{Plain, push_copies};
 
 /// No amount is greater.
 const GREATEST_AMOUNT: u64 = 1 << 40;

@@ -1,6 +1,6 @@
 -- Which refusal is returned.
 use Rattle.std.specs.Prelude.{◌≡◌, Bool, true, false, Option, Some}
-use Rattle.mails.specs.declared.refusal.MasterRefusal.{MasterRefusal}
+use Rattle.messages.specs.declared.refusal.MasterRefusal.{MasterRefusal}
 use Rattle.roster.specs.declared.fault.RosterFault.{RosterFault}
 use Rattle.roster.specs.declared.fault.RosterFault.TheVariants.{Refused, Spent, OutOfMemory}
 

@@ -1,8 +1,8 @@
 -- Sessions of one agent: which mails are of the open one, and what opens, closes and counts do.
 use Rattle.std.specs.Prelude.{ℕ, suc, ◌+◌, ◌-◌, Bool, ◌&&◌, ◌==◌, nat_lt, nat_le, if◌then◌else◌, List, [], ◌∷◌, ◌++◌, length, take, drop, Option, Some, None, Result, Ok, Err}
-use Rattle.mails.specs.declared.mail.Command.{Command}
-use Rattle.mails.specs.declared.refusal.MasterRefusal.{MasterRefusal}
-use Rattle.mails.specs.declared.refusal.MasterRefusal.TheVariants.{OtherRun}
+use Rattle.messages.specs.declared.mail.Command.{Command}
+use Rattle.messages.specs.declared.refusal.MasterRefusal.{MasterRefusal}
+use Rattle.messages.specs.declared.refusal.MasterRefusal.TheVariants.{OtherRun}
 use Rattle.cluster_model.specs.Ids.{last_number}
 use Rattle.cluster_model.specs.Sides.{Side, opened, last_session, counts}
 use Rattle.cluster_model.specs.Mails.{judged_session}

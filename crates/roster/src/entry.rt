@@ -8,7 +8,7 @@ ghost use Rattle.roster.specs.Sessions.{judged_report, report_opens, reported, a
 ghost use Rattle.roster.specs.Faults.{IsIssueRefusal, IsAppliedRefusal};
 
 use crate::fault::RosterFault;
-use mails::{Command, MasterRefusal};
+use messages::{Command, MasterRefusal};
 use names_core::{AgentName, Run};
 use std::alloc::Global;
 use std::marker::Model;

@@ -3,7 +3,7 @@
 ghost use Rattle.std.specs.Prelude.{◌≡◌};
 ghost use Rattle.roster.specs.declared.fault.RosterFault.TheVariants.{Refused, OutOfMemory};
 
-use mails::MasterRefusal;
+use messages::MasterRefusal;
 use std::alloc::{AllocError, AllocFailed};
 use thiserror::Error;
 

@@ -9,7 +9,7 @@ ghost use Rattle.roster.specs.Faults.{IsIssueRefusal, IsAppliedRefusal};
 
 use crate::entry::RosterEntry;
 use crate::fault::RosterFault;
-use mails::{Command, MasterRefusal};
+use messages::{Command, MasterRefusal};
 use names_core::{AgentName, Run};
 use std::alloc::{AllocError, Global};
 use std::marker::Model;

@@ -1,11 +1,11 @@
 //! Why a cluster stops running.
 
-use activities::ActivityFault;
+use desk_agents::ActivityFault;
+use desk_core::ClusterFault;
 use desk_lock::OfficeFault;
-use http_workers::HttpFault;
+use http_serve::HttpFault;
 use keep_store::KeepFault;
 use names_core::AgentName;
-use running_clusters::ClusterFault;
 use std::fmt;
 
 /// Why a cluster stops running before its last connection was taken.

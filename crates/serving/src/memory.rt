@@ -2,8 +2,8 @@
 
 use crate::fault::ServingFault;
 use crate::staff::{Entrance, Leaver};
+use desk_core::{Awaited, ClusterFault, KeptEntry, Running};
 use desk_lock::{Office, Pass, Waited};
-use running_clusters::{Awaited, ClusterFault, KeptEntry, Running};
 use std::fs;
 use std::net::{Net, TcpListener, TcpStream};
 use std::sync::{Wait, ledger};

@@ -6,12 +6,11 @@ ghost use Rattle.std.specs.Prelude.{◌≡◌, ◌==◌, ◌<◌, ◌-◌, ◌/�
 use crate::fault::ServingFault;
 use crate::memory::MemoryLimit;
 use crate::staff::{Entrance, Leaver, Pace, seated, start_all};
+use desk_core::{KeptEntry, Running};
 use desk_lock::{Desk, Office, OfficeFault, Pass, Passes, Recorded, SeatedHistory};
 use http_door::NoGate;
-use http_workers::{HttpFault, serve_all};
-use office_bench::{ConnectionLimits, Ending, Places, Seating, TcpArrivals};
-use record_folder::RecordFile;
-use running_clusters::{KeptEntry, Running};
+use http_serve::{ConnectionLimits, Ending, HttpFault, Places, Seating, TcpArrivals, serve_all};
+use keep_folder::RecordFile;
 use std::alloc::Global;
 use std::net::{Net, TcpListener, TcpStream};
 use std::sync::ledger::Blank;

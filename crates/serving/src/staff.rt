@@ -1,19 +1,18 @@
 //! The threads of a cluster's agents and of its master's time.
 
 ghost use Rattle.std.specs.Prelude.{◌≡◌, [], None, true, if◌then◌else◌, IfOk};
-ghost use Rattle.activities.specs.declared.fault.CabinetFailures.TheVariants.{Borne, Fatal};
+ghost use Rattle.desk_agents.specs.declared.fault.CabinetFailures.TheVariants.{Borne, Fatal};
 
 use crate::fault::ServingFault;
 use crate::memory::{MemoryLimit, keep_within};
-use activities::{ActivityFault, CabinetFailures, Stopwatch, activity, decliner, ticker};
+use desk_agents::{ActivityFault, CabinetFailures, Stopwatch, activity, decliner, ticker};
+use desk_core::{KeptEntry, Running};
 use desk_lock::{Office, Pass};
-use http_workers::HttpFault;
+use http_serve::{Ending, HttpFault};
+use keep_folder::{FileCabinet, RecordFile, TellingCabinet};
 use keep_store::KeepFault;
 use names_core::AgentName;
-use office_bench::Ending;
 use quantity::Resources;
-use record_folder::{FileCabinet, RecordFile, TellingCabinet};
-use running_clusters::{KeptEntry, Running};
 use std::alloc::Global;
 use std::net::{Net, TcpListener, TcpStream};
 use std::sync::{Wait, ledger};

@@ -1,13 +1,13 @@
 //! What a link or the updates of a task refuse.
 
 ghost use Rattle.std.specs.Prelude.{◌≡◌};
-ghost use Rattle.stream_core.specs.declared.fault.StreamFault.TheVariants.{OutOfMemory};
+ghost use Rattle.stream_core.specs.declared.fault.TaskLinkFault.TheVariants.{OutOfMemory};
 
 use std::alloc::{AllocError, AllocFailed};
 use thiserror::Error;
 
 #[derive(Clone, Copy, Debug, Drop, PartialEq, Eq, Error)]
-pub enum StreamFault {
+pub enum TaskLinkFault {
     /// The command isn't the next one.
     #[error("L1 NotNext")]
     NotNext,
@@ -28,18 +28,18 @@ pub enum StreamFault {
     OutOfMemory,
 }
 
-impl From<AllocError> for StreamFault {
+impl From<AllocError> for TaskLinkFault {
     ghost from_gives = { λ _ e. e ≡ OutOfMemory };
 
-    fn from(_e: AllocError) -> StreamFault {
-        StreamFault::OutOfMemory
+    fn from(_e: AllocError) -> TaskLinkFault {
+        TaskLinkFault::OutOfMemory
     }
 }
 
-impl<T: Drop> From<AllocFailed<T>> for StreamFault {
+impl<T: Drop> From<AllocFailed<T>> for TaskLinkFault {
     ghost from_gives = { λ _ e. e ≡ OutOfMemory };
 
-    fn from(_e: AllocFailed<T>) -> StreamFault {
-        StreamFault::OutOfMemory
+    fn from(_e: AllocFailed<T>) -> TaskLinkFault {
+        TaskLinkFault::OutOfMemory
     }
 }

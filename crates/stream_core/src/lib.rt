@@ -5,6 +5,6 @@ mod fault;
 mod link;
 mod updates;
 
-pub use fault::StreamFault;
+pub use fault::TaskLinkFault;
 pub use link::{LinkIn, LinkOut};
 pub use updates::Updates;

@@ -4,7 +4,7 @@ ghost use Rattle.std.specs.Prelude.{◌≡◌, ◌≢◌, ◌⊎◌, ◌+◌, �
 ghost use Rattle.std.specs.List.{AllByRecursion as Each};
 ghost use Rattle.stream_core.specs.Links.{AreIssued, IsSent, applied, is_spent, issued, issued_count, newly_applied, taken};
 
-use crate::fault::StreamFault;
+use crate::fault::TaskLinkFault;
 use std::alloc::{AllocError, Global};
 use std::collections::VecDeque;
 use std::marker::Model;
@@ -64,16 +64,16 @@ impl<C> LinkOut<C> {
 impl<C: Drop> LinkOut<C> {
     /// Issues a command and returns its number. L2 where every number is used,
     /// U4 where memory ran out.
-    pub fn issue(&mut self, command: C) -> Result<u32, StreamFault>
+    pub fn issue(&mut self, command: C) -> Result<u32, TaskLinkFault>
         ensures number { IfOk result (λ n. n ≡ suc (issued_count self.old)) }
         ensures ok { OnOk result (self.new ≡ issued command self.old) }
-        ensures spent { result ≡ Err StreamFault.Spent → is_spent self.old ≡ true }
+        ensures spent { result ≡ Err TaskLinkFault.Spent → is_spent self.old ≡ true }
         ensures numbers { OnOk result (is_spent self.old ≡ false) }
         ensures err { IfErr result (λ e. (self.new ≡ self.old)
-            × ((e ≡ StreamFault.Spent) ⊎ (e ≡ StreamFault.OutOfMemory))) }
+            × ((e ≡ TaskLinkFault.Spent) ⊎ (e ≡ TaskLinkFault.OutOfMemory))) }
     {
         if self.is_spent() {
-            return Err(StreamFault::Spent);
+            return Err(TaskLinkFault::Spent);
         }
         self.waiting.push_back(command)?;
         Ok(self.known + self.waiting.len() as u32)
@@ -153,13 +153,13 @@ impl LinkIn {
     }
 
     /// Takes the command with this number if it is the next one, else L1.
-    pub fn take(&mut self, number: u32) -> Result<(), StreamFault>
+    pub fn take(&mut self, number: u32) -> Result<(), TaskLinkFault>
         ensures ok { OnOk result ((number ≡ suc self.old) × (self.new ≡ number)) }
-        ensures err { IfErr result (λ e. (e ≡ StreamFault.NotNext) × (number ≢ suc self.old)
+        ensures err { IfErr result (λ e. (e ≡ TaskLinkFault.NotNext) × (number ≢ suc self.old)
             × (self.new ≡ self.old)) }
     {
         if number == 0 || number - 1 != self.count {
-            return Err(StreamFault::NotNext);
+            return Err(TaskLinkFault::NotNext);
         }
         self.count = number;
         Ok(())

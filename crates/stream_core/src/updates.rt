@@ -5,11 +5,11 @@ ghost use Rattle.std.specs.List.{list_any};
 ghost use Rattle.names_core.specs.States.{is_terminal};
 ghost use Rattle.stream_core.specs.Updates.{acknowledged_one, are_updates, front, ends_last, has_ended, is_done, is_front, is_full, pushed};
 
-use crate::fault::StreamFault;
+use crate::fault::TaskLinkFault;
 use names_core::TaskState;
-use plain_data::Plain;
 use std::alloc::{AllocError, Global};
 use std::marker::Model;
+use values::Plain;
 
 /// The states of a task in the order in which they came, and how many of the first are
 /// acknowledged. A terminal state is the last one; there are at most 4,096 states, the 4,096th a
@@ -116,34 +116,35 @@ impl Updates {
 
     /// Adds the next state. U2 where there is a terminal state, at any length; U3 where there is
     /// none, the new state isn't terminal and there are 4,095 states; U4 where memory ran out.
-    pub fn push(&mut self, state: TaskState) -> Result<(), StreamFault>
+    pub fn push(&mut self, state: TaskState) -> Result<(), TaskLinkFault>
         ensures ok { OnOk result (self.new ≡ pushed state self.old) }
         ensures open { OnOk result (has_ended self.old ≡ false) }
-        ensures closed { result ≡ Err StreamFault.Closed → has_ended self.old ≡ true }
-        ensures full { result ≡ Err StreamFault.Full → (has_ended self.old ≡ false)
+        ensures closed { result ≡ Err TaskLinkFault.Closed → has_ended self.old ≡ true }
+        ensures full { result ≡ Err TaskLinkFault.Full → (has_ended self.old ≡ false)
             × (is_terminal state ≡ false) × (is_full self.old ≡ true) }
         ensures err { IfErr result (λ e. (self.new ≡ self.old)
-            × ((e ≡ StreamFault.Closed) ⊎ (e ≡ StreamFault.Full) ⊎ (e ≡ StreamFault.OutOfMemory))) }
+            × ((e ≡ TaskLinkFault.Closed) ⊎ (e ≡ TaskLinkFault.Full)
+            ⊎ (e ≡ TaskLinkFault.OutOfMemory))) }
     {
         if self.has_ended() {
-            return Err(StreamFault::Closed);
+            return Err(TaskLinkFault::Closed);
         }
         if !state.is_terminal() && self.states.len() >= 4095 {
-            return Err(StreamFault::Full);
+            return Err(TaskLinkFault::Full);
         }
         self.states.push(state)?;
         Ok(())
     }
 
     /// Acknowledges the first update that isn't acknowledged, if it has this number, else U1.
-    pub fn acknowledge(&mut self, k: u32) -> Result<(), StreamFault>
+    pub fn acknowledge(&mut self, k: u32) -> Result<(), TaskLinkFault>
         ensures ok { OnOk result ((is_front k self.old ≡ true)
             × (self.new ≡ acknowledged_one self.old)) }
-        ensures err { IfErr result (λ e. (e ≡ StreamFault.NotFront) × (is_front k self.old ≡ false)
-            × (self.new ≡ self.old)) }
+        ensures err { IfErr result (λ e. (e ≡ TaskLinkFault.NotFront)
+            × (is_front k self.old ≡ false) × (self.new ≡ self.old)) }
     {
         if !self.is_front(k) {
-            return Err(StreamFault::NotFront);
+            return Err(TaskLinkFault::NotFront);
         }
         self.acknowledged += 1;
         Ok(())
@@ -186,7 +187,7 @@ impl Clone for Updates {
 }
 
 impl PartialEq for Updates {
-    ghost use Rattle.plain_data.specs.Deciding.{and_decides, per_from_decides};
+    ghost use Rattle.values.specs.Deciding.{and_decides, per_from_decides};
     ghost use Rattle.std.proofs.Common.{rules};
     ghost use Rattle.std.specs.Prelude.{◌&&◌, ◌==◌};
     ghost use Rattle.std.specs.Cmp.{unsigned_Decides};
@@ -205,7 +206,7 @@ impl PartialEq for Updates {
 }
 
 impl Plain for Updates {
-    ghost use Rattle.plain_data.specs.Deciding.{and_decides};
+    ghost use Rattle.values.specs.Deciding.{and_decides};
     ghost use Rattle.std.proofs.Common.{rules};
     ghost use Rattle.std.specs.Cmp.{unsigned_Decides};
     ghost use Rattle.std.specs.Cmp.Lexicographic.{pointwise_decides};

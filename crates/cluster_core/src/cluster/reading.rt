@@ -3,15 +3,15 @@
 ghost use Rattle.std.specs.Prelude.{◌≡◌, ◌≤◌, length, option_map, IfNone, IfSome};
 ghost use Rattle.cluster_core.specs.Reading.{IsNextFrom, IsNextTo, NoneFrom, NoneTo, is_open_in, stream_in, waiting_in};
 ghost use Rattle.cluster_core.specs.Stories.{state_of};
-ghost use Rattle.cluster_histories.specs.Clusters.{master_of};
+ghost use Rattle.cluster_model.specs.Clusters.{master_of};
 ghost use Rattle.cluster_parts.specs.Masters.{kept_master};
 
 use crate::advancing::place_in;
 use crate::cluster::Cluster;
+use cluster_channels::{Direction, Post, Queues};
 use cluster_laws::{agents_keep_their_names, items_are_posts};
 use master_core::Master;
 use names_core::{AgentName, StreamId};
-use post_rules::{Direction, Post, Queues};
 
 impl<P: Post + Drop> Cluster<P> {
     /// How many entries there are since the opening.

@@ -7,7 +7,7 @@ use Rattle.serde_json.specs.Data.{Data, depth}
 use Rattle.serde_json.specs.Read.{max_depth, read}
 use Rattle.serde_json.specs.View.{view}
 use Rattle.call_json.specs.Calls.{call_of, call_in, nested_call, read_json}
-use Rattle.call_members.specs.declared.fault.Refusal.TheVariants.{NotJson}
+use Rattle.call_json.specs.declared.members.fault.Refusal.TheVariants.{NotJson}
 use Rattle.call_json.proofs.read.read_json.Goals as goal
 
 read_it : (bytes : List ℕ) (d : Data) → IsUtf8 bytes → read bytes ≡ Some d → read_json bytes ≡ call_of d

@@ -1,5 +1,5 @@
-use Rattle.device_io.specs.Read.{if_known}
-use Rattle.device_io.specs.Written.{front_nothing}
+use Rattle.frame_record.specs.Read.{if_known}
+use Rattle.frame_record.specs.Written.{front_nothing}
 use Rattle.call_replies.proofs.answering.calls.Goals as goal
 
 pub returns-in-Err-clause-err : goal.returns-in-Err-clause-err

@@ -3,7 +3,7 @@ use Rattle.frame_record.specs.Firsts.{bodies}
 use Rattle.call_json.specs.Calls.{read_call}
 use Rattle.call_replies.specs.Replies.{frames, reply, replies, after_all}
 use Rattle.call_replies.proofs.Replying.{after_none, replies_none, replies_more, after_more, front_at}
-use Rattle.device_io.specs.Written.{appends_more, appends_nothing}
+use Rattle.frame_record.specs.Written.{appends_more, appends_nothing}
 use Rattle.call_replies.proofs.reply.answer_all.Goals as goal
 
 pub loop-body-init : goal.loop-body-init

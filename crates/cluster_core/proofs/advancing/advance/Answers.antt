@@ -1,15 +1,15 @@
 use Rattle.std.proofs.Common.{rules, ◌≡◌, ◌<◌, ◌∙◌, ap, drop, length, map, refl, sym, subst}
 use Rattle.std.specs.Prelude.{fold, IfErr}
 use Rattle.std.proofs.lemmas.Result.{IfErr-weaker}
-use Rattle.cluster_histories.specs.Steps.{marked_of}
-use Rattle.cluster_entries.specs.declared.entry.Outputs.{Outputs}
-use Rattle.cluster_steps.specs.declared.fault.ClusterFault.TheVariants.{OutOfMemory}
-use Rattle.agent_sides.specs.Configs.{names_of}
+use Rattle.cluster_model.specs.Steps.{marked_of}
+use Rattle.messages.specs.declared.entries.entry.Outputs.{Outputs}
+use Rattle.messages.specs.declared.steps.fault.ClusterFault.TheVariants.{OutOfMemory}
+use Rattle.master_agents.specs.Configs.{names_of}
 use Rattle.cluster_laws.specs.Items.{StandIn}
 use Rattle.cluster_laws.specs.Parts.{AreAgentsOf}
 use Rattle.cluster_agents.specs.Handing.{handed}
 use Rattle.cluster_parts.specs.Parts.{ArePartsBy}
-use Rattle.cluster_parts.specs.declared.parts.Parts.{Parts}
+use Rattle.cluster_parts.specs.declared.parts.ClusterState.{ClusterState}
 use Rattle.cluster_core.specs.Putting.{direction_of, with_handed}
 use Rattle.cluster_core.specs.Keeping.{IsKept, IsRefused, IsTaken, entry_made, story_of, taken_made}
 use Rattle.cluster_core.specs.Stories.{Story, state_of, with_entry}
@@ -58,7 +58,7 @@ returns-in-Ok-clause-kept g c =
     (g.P.Post.direction_at (g.P.Post.known c.args.parts.now.served.post)) (g.P.Post.direction_at (g.P.Post.known c.take_step.new.self.served.post)) (g.P.Post.direction_at (g.P.Post.known c.hand_on.new.parts.served.post)) c.args.step c.in-Ok.made c.requires h t c.take_step.ensures.config c.hand_on.ensures.count
     there (λ n. ap (λ k. g.P.Post.direction_at k n) c.take_step.ensures.post) c.hand_on.ensures.directions c.hand_on.ensures.put in
     let news = g.P.Post.direction_at (g.P.Post.known c.hand_on.new.parts.served.post) in
-    let moved = subst (λ (x : Parts _). IsKept (with_entry s e) c.args.history.now.opened x (g.P.Post.count (g.P.Post.known c.hand_on.new.parts.served.post)) news) (sym c.hand_on.ensures.kept)
+    let moved = subst (λ (x : ClusterState _). IsKept (with_entry s e) c.args.history.now.opened x (g.P.Post.count (g.P.Post.known c.hand_on.new.parts.served.post)) news) (sym c.hand_on.ensures.kept)
     (posted (with_entry s e) c.args.history.now.opened c.take_step.new.self c.hand_on.new.parts.served.post _ news kept) in
     let entry_kept : story_of c.write_down.new.history ≡ with_entry s e =
     c.write_down.ensures.entry_kept ∙ ap (λ (x : Story). with_entry x e) c.make_room.ensures.story in
@@ -88,7 +88,7 @@ returns-in-Ok-clause-known g c =
     let before : length c.as_slice-before.result.now ≡ length (state_of s).posts = ap length c.as_slice-before.ensures ∙ sym (all_posts (state_of s) c.args.parts.now.served.items c.requires.stands.as_others.as_items) in
     let agents : AreAgentsOf q.config s.records = ap names_of c.take_step.ensures.config ∙ c.requires.config in
     let kept = returns-in-Ok-clause-kept g c in
-    let stand : StandIn (state_of new) q.served.items = subst (StandIn (state_of new)) (ap (λ (x : Parts _). x.served.items) c.hand_on.ensures.kept) kept.stands.as_others.as_items in
+    let stand : StandIn (state_of new) q.served.items = subst (StandIn (state_of new)) (ap (λ (x : ClusterState _). x.served.items) c.hand_on.ensures.kept) kept.stands.as_others.as_items in
     let sent = put_since q.config (state_of new) q.served.items (length c.as_slice-before.result.now) (length (state_of s).posts) stand before ∙ ways_by_names q.config s.records (drop (length (state_of s).posts) (state_of new).posts) agents in
     let known : g.P.Post.known c.hand_on.new.parts.served.post ≡ fold put (with_handed g.P.Post.with_given (g.P.Post.known c.take_step.new.self.served.post) step) (map (direction_of q.config) (drop (length c.as_slice-before.result.now) q.served.items)) = c.hand_on.ensures.known in
     let same : with_handed g.P.Post.with_given (g.P.Post.known c.take_step.new.self.served.post) step ≡ with_handed g.P.Post.with_given (g.P.Post.known c.args.parts.now.served.post) step = ap (λ k. with_handed g.P.Post.with_given k step) c.take_step.ensures.post in

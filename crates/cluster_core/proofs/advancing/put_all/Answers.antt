@@ -1,8 +1,8 @@
 use Rattle.std.proofs.Common.{◌≡◌, ◌≤◌, ◌+◌, ◌-◌, ◌∙◌, ap, arith, drop, length, map, Some, slice_get, subst, suc, sym, take, ℕ}
 use Rattle.std.specs.Prelude.{fold, IfSome}
 use Rattle.std.proofs.lemmas.List.{length-drop, length-take}
-use Rattle.post_rules.proofs.Lists.{get_of_take}
-use Rattle.post_rules.specs.declared.direction.Direction.{Direction}
+use Rattle.cluster_channels.proofs.Lists.{get_of_take}
+use Rattle.cluster_channels.specs.declared.posts.direction.Direction.{Direction}
 use Rattle.cluster_core.specs.Putting.{direction_of}
 use Rattle.cluster_core.proofs.Puttings.{all_were_put, behind, got, one_more_put, puts_one_more}
 use Rattle.cluster_core.proofs.advancing.put_all.Goals as goal

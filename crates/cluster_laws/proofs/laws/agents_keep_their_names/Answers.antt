@@ -1,6 +1,6 @@
 use Rattle.std.proofs.Common.{◌≡◌}
 use Rattle.cluster_model.specs.Channels.{Channel}
-use Rattle.cluster_histories.specs.Steps.{history}
+use Rattle.cluster_model.specs.Steps.{history}
 use Rattle.cluster_laws.proofs.Agents.{ChannelOk}
 use Rattle.cluster_laws.proofs.Histories.{history_names, history_once}
 use Rattle.cluster_laws.proofs.Lists.{each_map}

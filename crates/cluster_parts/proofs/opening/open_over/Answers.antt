@@ -1,7 +1,7 @@
 use Rattle.std.proofs.Common.{◌∙◌, [], List, subst}
-use Rattle.cluster_histories.specs.Steps.{Setup}
+use Rattle.cluster_model.specs.Steps.{Setup}
 use Rattle.cluster_laws.specs.declared.item.Item.{Item}
-use Rattle.event_streams.specs.declared.kept.KeptStream.{KeptStream}
+use Rattle.cluster_channels.specs.declared.streams.kept.KeptStream.{KeptStream}
 use Rattle.cluster_parts.specs.Masters.{Settles}
 use Rattle.cluster_parts.proofs.opening.open_over.Goals as goal
 

@@ -1,7 +1,7 @@
 use Rattle.std.proofs.Common.{◌+◌, length, subst, sym}
-use Rattle.desk_seats.specs.Receipts.{AnswersBy, PassState}
-use Rattle.desk_seats.specs.Refused.{MayRefuseCall}
-use Rattle.desk_seats.specs.Seats.{DeskState}
+use Rattle.desk_core.specs.Receipts.{AnswersBy, PassState}
+use Rattle.desk_core.specs.Refused.{MayRefuseCall}
+use Rattle.desk_core.specs.Seats.{DeskState}
 use Rattle.desk_lock.proofs.Waits.{answered_so, refused_so}
 use Rattle.desk_lock.proofs.office.answer_at.Goals as goal
 

@@ -1,8 +1,8 @@
 use Rattle.std.proofs.Common.{◌≡◌, List, [], None, Some, ap, sym, subst, ◌∙◌, arith}
 use Rattle.std.specs.List.{find, position}
 use Rattle.quantity.specs.declared.rows.Row.{Row}
-use Rattle.share_sums.specs.Dominant.{IsDominant, Part}
-use Rattle.share_sums.proofs.Dominating.{nothing_held}
+use Rattle.drf_shares.specs.Dominant.{IsDominant, Part}
+use Rattle.drf_shares.proofs.Dominating.{nothing_held}
 use Rattle.drf_pick.specs.Shares.{Tally, is_holder}
 use Rattle.drf_pick.specs.Fractions.{holder_held}
 use Rattle.drf_pick.specs.Least.{held_by, held_of}

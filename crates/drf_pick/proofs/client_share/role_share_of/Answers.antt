@@ -1,8 +1,8 @@
 use Rattle.std.proofs.Common.{◌≡◌, [], get_or, Option, None, Some, ap, sym, subst, ◌∙◌, arith}
 use Rattle.std.specs.List.{find, position}
 use Rattle.cluster_model.specs.Rounds.{Share}
-use Rattle.share_sums.specs.Dominant.{IsDominant, Part}
-use Rattle.share_sums.proofs.Dominating.{nothing_held}
+use Rattle.drf_shares.specs.Dominant.{IsDominant, Part}
+use Rattle.drf_shares.proofs.Dominating.{nothing_held}
 use Rattle.drf_pick.specs.Shares.{RoleSum, Tally, is_role}
 use Rattle.drf_pick.specs.Fractions.{role_held}
 use Rattle.drf_pick.specs.Least.{role_share, share_of_sum}

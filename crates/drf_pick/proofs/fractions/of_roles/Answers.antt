@@ -1,6 +1,6 @@
 use Rattle.std.proofs.Common.{◌≡◌, ℕ, suc, ◌+◌, ◌<◌, ◌++◌, ◌∷◌, [], List, length, take, sym, subst, arith}
 use Rattle.std.proofs.lemmas.List.{length_push}
-use Rattle.share_sums.specs.Dominant.{Part}
+use Rattle.drf_shares.specs.Dominant.{Part}
 use Rattle.drf_pick.specs.Fractions.{OfRoles, role_held}
 use Rattle.drf_pick.proofs.KeptShares.{pushed}
 use Rattle.drf_pick.proofs.fractions.of_roles.Goals as goal

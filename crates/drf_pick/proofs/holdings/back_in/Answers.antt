@@ -1,8 +1,8 @@
 use Rattle.std.proofs.Common.{◌≡◌, true, ap, sym, ◌∙◌, refl, Err}
 use Rattle.quantity.specs.Rows.{covers, rest_of}
 use Rattle.drf_pick.specs.Shares.{Holder, is_holder, returning}
-use Rattle.share_sums.specs.declared.fault.SharesFault.{SharesFault}
-use Rattle.share_sums.specs.declared.fault.SharesFault.TheVariants.{NotHeld}
+use Rattle.drf_shares.specs.declared.fault.SharesFault.{SharesFault}
+use Rattle.drf_shares.specs.declared.fault.SharesFault.TheVariants.{NotHeld}
 use Rattle.drf_pick.proofs.Places.{first_at, none_at}
 use Rattle.drf_pick.proofs.holdings.back_in.Goals as goal
 

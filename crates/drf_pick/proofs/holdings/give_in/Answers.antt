@@ -1,5 +1,5 @@
 use Rattle.std.proofs.Common.{◌≡◌, ap, sym, ◌∙◌}
-use Rattle.share_sums.specs.Sums.{plus_rows}
+use Rattle.drf_shares.specs.Sums.{plus_rows}
 use Rattle.drf_pick.specs.Shares.{Holder, is_holder, holding}
 use Rattle.drf_pick.proofs.Places.{first_at}
 use Rattle.drf_pick.proofs.RoleSums.{holder_room, role_room}

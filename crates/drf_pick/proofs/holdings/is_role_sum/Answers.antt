@@ -1,5 +1,5 @@
 use Rattle.std.proofs.Common.{◌≡◌, Option, get_or, IfSome, ap, sym, subst, ◌∙◌}
-use Rattle.share_sums.specs.Sums.{IsSum}
+use Rattle.drf_shares.specs.Sums.{IsSum}
 use Rattle.drf_pick.specs.Shares.{RoleSum, is_role}
 use Rattle.drf_pick.proofs.Places.{first_at, none_at}
 use Rattle.drf_pick.proofs.holdings.is_role_sum.Goals as goal

@@ -1,8 +1,8 @@
 use Rattle.std.proofs.Common.{◌≡◌, not, ap, sym, subst, ◌∙◌}
 use Rattle.cluster_model.specs.Ids.{bytes_before}
 use Rattle.cluster_model.specs.Rounds.{Share}
-use Rattle.share_sums.specs.Dominant.{is_at_most}
-use Rattle.share_sums.specs.Sums.{IsSum}
+use Rattle.drf_shares.specs.Dominant.{is_at_most}
+use Rattle.drf_shares.specs.Sums.{IsSum}
 use Rattle.drf_pick.specs.Shares.{Tally}
 use Rattle.drf_pick.specs.Least.{role_share}
 use Rattle.drf_pick.proofs.ByFractions.{Compared, by_weights, is_first, is_later, is_tied}

@@ -1,8 +1,8 @@
 use Rattle.std.proofs.Common.{rules, ◌≡◌, true, false, not, ap, sym, subst, ◌∙◌}
 use Rattle.names_core.specs.Ids.{before}
 use Rattle.cluster_model.specs.Rounds.{Share, share}
-use Rattle.share_sums.specs.Dominant.{is_at_most}
-use Rattle.share_sums.specs.Sums.{IsSum}
+use Rattle.drf_shares.specs.Dominant.{is_at_most}
+use Rattle.drf_shares.specs.Sums.{IsSum}
 use Rattle.drf_pick.specs.Shares.{Tally}
 use Rattle.drf_pick.specs.Least.{held_by}
 use Rattle.drf_pick.proofs.ByFractions.{Compared, is_first, is_later, is_tied}

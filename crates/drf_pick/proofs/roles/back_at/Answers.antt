@@ -1,8 +1,8 @@
 use Rattle.std.proofs.Common.{◌≡◌, ap, sym, ◌∙◌, Err}
 use Rattle.quantity.specs.Rows.{rest_of}
 use Rattle.drf_pick.specs.Shares.{RoleSum, is_role, role_returning}
-use Rattle.share_sums.specs.declared.fault.SharesFault.{SharesFault}
-use Rattle.share_sums.specs.declared.fault.SharesFault.TheVariants.{NotHeld}
+use Rattle.drf_shares.specs.declared.fault.SharesFault.{SharesFault}
+use Rattle.drf_shares.specs.declared.fault.SharesFault.TheVariants.{NotHeld}
 use Rattle.drf_pick.proofs.Places.{first_at}
 use Rattle.drf_pick.proofs.roles.back_at.Goals as goal
 

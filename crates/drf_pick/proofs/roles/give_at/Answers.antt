@@ -1,7 +1,7 @@
 use Rattle.std.proofs.Common.{◌≡◌, ap, sym, ◌∙◌}
 use Rattle.std.proofs.Common.{List, Option, subst}
 use Rattle.quantity.specs.declared.rows.Row.{Row}
-use Rattle.share_sums.specs.Sums.{CanAdd, plus_rows}
+use Rattle.drf_shares.specs.Sums.{CanAdd, plus_rows}
 use Rattle.drf_pick.specs.Shares.{RoleSum, is_role, role_holding}
 use Rattle.drf_pick.proofs.Places.{first_at}
 use Rattle.drf_pick.proofs.Shown.{held_of}

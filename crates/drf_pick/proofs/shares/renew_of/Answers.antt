@@ -2,7 +2,7 @@ use Rattle.std.proofs.Common.{◌≡◌, List, Option, Some, get_or, ap, sym, su
 use Rattle.std.specs.List.{position}
 use Rattle.std.proofs.lemmas.List.Quantifiers.{position-Some}
 use Rattle.quantity.specs.declared.rows.Row.{Row}
-use Rattle.share_sums.specs.Dominant.{IsDominant}
+use Rattle.drf_shares.specs.Dominant.{IsDominant}
 use Rattle.drf_pick.specs.Shares.{Holder, Tally, is_holder}
 use Rattle.drf_pick.specs.Fractions.{OfRolesBut, holder_held}
 use Rattle.drf_pick.proofs.KeptShares.{first_renewed, no_other, room_but}

@@ -2,7 +2,7 @@ use Rattle.std.proofs.Common.{◌≡◌, List, Some, get_or, ap, sym, subst, ◌
 use Rattle.std.specs.List.{position}
 use Rattle.std.proofs.lemmas.List.Quantifiers.{position-Some}
 use Rattle.quantity.specs.declared.rows.Row.{Row}
-use Rattle.share_sums.specs.Dominant.{IsDominant}
+use Rattle.drf_shares.specs.Dominant.{IsDominant}
 use Rattle.drf_pick.specs.Shares.{RoleSum, Tally, is_role}
 use Rattle.drf_pick.specs.Fractions.{role_held}
 use Rattle.drf_pick.proofs.KeptShares.{first_renewed, no_other, room_but}

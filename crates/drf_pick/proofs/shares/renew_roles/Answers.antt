@@ -1,7 +1,7 @@
 use Rattle.std.proofs.Common.{◌≡◌, ℕ, suc, ◌+◌, ◌<◌, List, length, set, take, get_or, ap, sym, subst, ◌∙◌, arith}
 use Rattle.std.proofs.Math.ListN.{length-set}
 use Rattle.quantity.specs.declared.rows.Row.{Row}
-use Rattle.share_sums.specs.Dominant.{IsDominant}
+use Rattle.drf_shares.specs.Dominant.{IsDominant}
 use Rattle.drf_pick.specs.Shares.{RoleSum, Tally}
 use Rattle.drf_pick.specs.Fractions.{OfRoles, role_held}
 use Rattle.drf_pick.proofs.KeptShares.{next_renewed}

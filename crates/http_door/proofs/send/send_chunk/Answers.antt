@@ -1,6 +1,6 @@
 use Rattle.std.proofs.Common.{◌++◌, ◌∷◌, [], ℕ, List, length, sym, ap, ◌∙◌, subst}
-use Rattle.http_text.specs.Responses.{chunk_line}
-use Rattle.http_text.proofs.Chunks.{in_parts}
+use Rattle.http_head.specs.Responses.{chunk_line}
+use Rattle.http_head.proofs.Chunks.{in_parts}
 use Rattle.http_door.specs.Turns.{Sends}
 use Rattle.http_door.proofs.send.send_chunk.Goals as goal
 

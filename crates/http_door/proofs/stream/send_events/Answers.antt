@@ -1,6 +1,6 @@
 use Rattle.std.proofs.Common.{◌++◌, ◌∷◌, [], ℕ, List, length, sym, ap, ◌∙◌, subst, refl, arith, append-nil}
 use Rattle.std.proofs.lemmas.List.{length-append}
-use Rattle.http_text.specs.Responses.{last_chunk}
+use Rattle.http_head.specs.Responses.{last_chunk}
 use Rattle.http_door.specs.Deeds.{Deed, Chain, taken}
 use Rattle.http_door.specs.Exchange.{chunks, nothing}
 use Rattle.http_door.specs.Turns.{Sends}

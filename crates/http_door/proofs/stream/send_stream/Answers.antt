@@ -1,5 +1,5 @@
 use Rattle.std.proofs.Common.{◌++◌, [], take, ap, ◌∙◌, refl}
-use Rattle.http_text.specs.Responses.{subscribed_response, last_chunk}
+use Rattle.http_head.specs.Responses.{subscribed_response, last_chunk}
 use Rattle.http_door.specs.Exchange.{nothing}
 use Rattle.http_door.proofs.Sent.{front_of}
 use Rattle.http_door.proofs.Events.{stream_sent}

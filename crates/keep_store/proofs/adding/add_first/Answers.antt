@@ -1,7 +1,7 @@
 use Rattle.std.proofs.Common.{rules, ◌≡◌, inl}
 use Rattle.sqlite.specs.Held.{state}
 use Rattle.sqlite.proofs.StateLemmas.{survives_weaker}
-use Rattle.keep_rows.specs.Tables.{no_schema}
+use Rattle.keep_tables.specs.Tables.{no_schema}
 use Rattle.keep_store.proofs.AddLemmas.{then}
 use Rattle.keep_store.proofs.adding.add_first.Goals as goal
 

@@ -2,8 +2,8 @@ use Rattle.std.proofs.Common.{◌≡◌, ◌∙◌, true, subst, sym}
 use Rattle.sqlite.specs.Held.{state}
 use Rattle.sqlite.specs.State.{HasCleanDisk}
 use Rattle.sqlite.proofs.StateLemmas.{survives_weaker}
-use Rattle.keep_rows.specs.Tables.{AddsFirst, AddsTables, AddsTotals, first_schema, second_schema, keeper_schema, no_schema}
-use Rattle.record_saves.specs.Kept.{Kept}
+use Rattle.keep_tables.specs.Tables.{AddsFirst, AddsTables, AddsTotals, first_schema, second_schema, keeper_schema, no_schema}
+use Rattle.keep_store.specs.SavesKept.{Kept}
 use Rattle.keep_store.specs.Kept.{Keeps}
 use Rattle.keep_store.proofs.AddLemmas.{completes, first_keeps, made_keeps, new_keeps, outside_then, second_keeps, stop_keeps, then, then_keeps, unknown_parts}
 use Rattle.keep_store.proofs.adding.add_tables.Goals as goal

@@ -1,5 +1,5 @@
 use Rattle.std.proofs.Common.{rules, ◌≡◌, subst, sym}
-use Rattle.keep_rows.specs.Tables.{IsLone}
+use Rattle.keep_tables.specs.Tables.{IsLone}
 use Rattle.keep_store.proofs.AddLemmas.{then}
 use Rattle.keep_store.proofs.check.check_ids.Goals as goal
 

@@ -1,16 +1,16 @@
 use Rattle.std.proofs.Common.{rules, ◌≡◌, ◌≢◌, ◌<◌, length, map, IfOk, Result, Option, Some, Err, refl, sym, ap, subst, ◌∙◌, inl, inr}
 use Rattle.std.proofs.lemmas.Result.{err_from_is_err_and, IfOk-weaker}
-use Rattle.mails.specs.declared.record.Durable.{Durable}
+use Rattle.messages.specs.declared.record.RecordParts.{RecordParts}
 use Rattle.sqlite.specs.declared.types.Value.{Value}
-use Rattle.record_text.specs.Texts.{record_form}
+use Rattle.event_json.specs.Texts.{record_form}
 use Rattle.std.specs.List.{AllByRecursion}
 use Rattle.std.proofs.lemmas.List.Sorted.{IsPermutation-refl}
-use Rattle.record_saves.specs.Kept.{IsPut, kept_in, with_tasks}
+use Rattle.keep_store.specs.SavesKept.{IsPut, kept_in, with_tasks}
 use Rattle.keep_store.specs.Kept.{AreTasksOf, IsLoaded}
-use Rattle.keep_rows.specs.declared.fault.KeepFault.{KeepFault}
-use Rattle.keep_rows.specs.declared.fault.KeepFault.TheVariants.{Damaged}
-use Rattle.keep_rows.specs.Tables.{amount_shown}
-use Rattle.record_saves.proofs.RiseLemmas.{put_are_tasks}
+use Rattle.keep_tables.specs.declared.rows.fault.KeepFault.{KeepFault}
+use Rattle.keep_tables.specs.declared.rows.fault.KeepFault.TheVariants.{Damaged}
+use Rattle.keep_tables.specs.Tables.{amount_shown}
+use Rattle.keep_store.proofs.RiseLemmas.{put_are_tasks}
 use Rattle.keep_store.proofs.LoadLemmas.{untold_damaged, headless_damaged, headless_total, old_form, unheaded_damaged, text_kept, misfit_damaged, only_text, none_at, front}
 use Rattle.keep_store.proofs.reading.record_shown.Goals as goal
 
@@ -47,7 +47,7 @@ returns-clause-loaded c = λ db shows.
     let at = front c.args.heads.now c.index-heads-0.result some c.index-heads-0.is in
     let ts = c.in_ok-read_back.read_back.items in
     then c.record_with.result (c.record_with.ensures.found (map amount_shown (db 5)) shows.amount_rows (put_are_tasks c.in_ok-read_back.read_back.items c.in_ok-read_back.ensures.are_put)) (λ found it.
-    subst (λ (f : Option Durable). IsLoaded (kept_in db).body f) (sym it.2) (
+    subst (λ (f : Option RecordParts). IsLoaded (kept_in db).body f) (sym it.2) (
       record_form (with_tasks ts it.0),
       text_kept db c.args.records.now c.args.heads.now c.args.tasks.now c.args.amounts.now c.index-heads-0.result at.0 ts it.0 shows at.1 no_record c.in_ok-read_back.ensures.read_back (put_are_tasks c.in_ok-read_back.read_back.items c.in_ok-read_back.ensures.are_put) it.3 it.1,
       (record { durable = it.4; form = inl refl }, it.5),
@@ -61,7 +61,7 @@ returns-clause-saved c = λ db d shows durable holds.
     let ts = c.in_ok-read_back.read_back.items in
     then c.record_with.result (c.record_with.ensures.found (map amount_shown (db 5)) shows.amount_rows (put_are_tasks c.in_ok-read_back.read_back.items c.in_ok-read_back.ensures.are_put)) (λ found it.
     let text = text_kept db c.args.records.now c.args.heads.now c.args.tasks.now c.args.amounts.now c.index-heads-0.result at.0 ts it.0 shows at.1 no_record c.in_ok-read_back.ensures.read_back (put_are_tasks c.in_ok-read_back.read_back.items c.in_ok-read_back.ensures.are_put) it.3 it.1 in
-    it.2 ∙ ap (λ (x : Durable). Some x) (only_text (kept_in db).body d (with_tasks ts it.0) holds durable text it.4))
+    it.2 ∙ ap (λ (x : RecordParts). Some x) (only_text (kept_in db).body d (with_tasks ts it.0) holds durable text it.4))
 
 pub returns-clause-damaged : goal.returns-clause-damaged
 returns-clause-damaged c = λ db shows damaged.
@@ -91,4 +91,4 @@ returns-clause-read_back c =
     let read_back = c.in_ok-read_back.ensures in
     then c.record_with.result (c.record_with.ensures.found c.args.amounts.now (IsPermutation-refl c.args.amounts.now) (put_are_tasks ts read_back.are_put)) (λ found it d is some.
     let same : d ≡ with_tasks ts it.0 = same_some (sym is ∙ it.2) in
-    subst (λ (e : Durable). AreTasksOf c.args.tasks.now e.tasks × AllByRecursion IsPut e.tasks) (sym same) (read_back.read_back, read_back.are_put))
+    subst (λ (e : RecordParts). AreTasksOf c.args.tasks.now e.tasks × AllByRecursion IsPut e.tasks) (sym same) (read_back.read_back, read_back.are_put))

@@ -1,6 +1,6 @@
 use Rattle.std.proofs.Common.{◌≡◌, Some}
-use Rattle.record_text.specs.Reading.{task_in}
-use Rattle.record_saves.proofs.ToldLemmas.{told_from}
+use Rattle.event_json.specs.Reading.{task_in}
+use Rattle.keep_store.proofs.ToldLemmas.{told_from}
 use Rattle.keep_store.proofs.reading.task_in.Goals as goal
 
 pub returns-clause-read_back : goal.returns-clause-read_back

@@ -1,7 +1,7 @@
 use Rattle.std.proofs.Common.{subst}
 use Rattle.std.specs.Str.{IsUtf8}
 use Rattle.std.proofs.lemmas.Str.{is_utf8-from_IsUtf8}
-use Rattle.record_text.specs.Texts.{task_form}
+use Rattle.event_json.specs.Texts.{task_form}
 use Rattle.keep_store.proofs.reading.task_of.Goals as goal
 
 pub returns-in-Ok-clause-is_put : goal.returns-in-Ok-clause-is_put

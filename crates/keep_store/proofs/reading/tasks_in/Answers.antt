@@ -1,7 +1,7 @@
 use Rattle.std.proofs.lemmas.Result.{err_from_is_err_and}
 use Rattle.std.proofs.Common.{◌≡◌}
-use Rattle.keep_rows.specs.declared.fault.KeepFault.TheVariants.{Damaged}
-use Rattle.record_saves.specs.Kept.{IsPut}
+use Rattle.keep_tables.specs.declared.rows.fault.KeepFault.TheVariants.{Damaged}
+use Rattle.keep_store.specs.SavesKept.{IsPut}
 use Rattle.keep_store.proofs.LoadLemmas.{told_more, all_push, untold_at, gives_none}
 use Rattle.keep_store.proofs.reading.tasks_in.Goals as goal
 

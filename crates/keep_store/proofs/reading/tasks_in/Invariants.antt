@@ -1,6 +1,6 @@
 use Rattle.std.proofs.Common.{take}
 use Rattle.std.specs.List.{AllByRecursion}
-use Rattle.record_saves.specs.Kept.{IsPut}
+use Rattle.keep_store.specs.SavesKept.{IsPut}
 use Rattle.keep_store.specs.Kept.{AreTasksOf}
 use Rattle.keep_store.proofs.reading.tasks_in.Given as goal
 

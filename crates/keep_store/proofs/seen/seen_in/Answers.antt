@@ -1,10 +1,10 @@
 use Rattle.std.proofs.Common.{rules, ◌≡◌, ◌≢◌, List, Some, length}
 use Rattle.std.specs.List.{AllByRecursion}
-use Rattle.mails.specs.declared.record.RecordedTask.{RecordedTask}
-use Rattle.record_saves.specs.Kept.{IsPut}
+use Rattle.messages.specs.declared.record.RecordedTask.{RecordedTask}
+use Rattle.keep_store.specs.SavesKept.{IsPut}
 use Rattle.keep_store.specs.Kept.{AreTasksOf, IsPlaced}
 use Rattle.keep_store.proofs.FoundLemmas.{found_seen, found_knows}
-use Rattle.record_saves.proofs.SaveLemmas.{keys_of}
+use Rattle.keep_store.proofs.SaveLemmas.{keys_of}
 use Rattle.keep_store.proofs.seen.seen_in.Goals as goal
 
 pub returns-clause-put : goal.returns-clause-put

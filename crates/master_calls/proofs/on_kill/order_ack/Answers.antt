@@ -1,5 +1,5 @@
 use Rattle.std.proofs.Common.{refl, sym, ◌∙◌}
-use Rattle.mails.specs.declared.mail.Command.TheVariants.{Ack}
+use Rattle.messages.specs.declared.mail.Command.TheVariants.{Ack}
 use Rattle.cluster_model.specs.Sides.{SendAck}
 use Rattle.master_calls.proofs.Calling.{commanded_so}
 use Rattle.master_calls.proofs.on_kill.order_ack.Goals as goal

@@ -1,5 +1,5 @@
 use Rattle.std.proofs.Common.{refl}
-use Rattle.mails.specs.declared.mail.Command.TheVariants.{Kill}
+use Rattle.messages.specs.declared.mail.Command.TheVariants.{Kill}
 use Rattle.cluster_model.specs.Sides.{SendKill}
 use Rattle.master_calls.proofs.Calling.{commanded_so}
 use Rattle.master_calls.proofs.on_kill.order_kill.Goals as goal

@@ -1,7 +1,7 @@
 use Rattle.std.proofs.Common.{[], fold, ap, ◌∙◌}
 use Rattle.std.proofs.lemmas.List.{take_all}
 use Rattle.offer_tables.specs.Held.{placed_of}
-use Rattle.agent_sides.specs.Looks.{all_placed}
+use Rattle.master_agents.specs.Looks.{all_placed}
 use Rattle.master_calls.specs.Reconciles.{gathers_found}
 use Rattle.master_calls.proofs.Gathering.{gathered_by_keys}
 use Rattle.master_calls.proofs.on_reconcile.gather_all.Goals as goal

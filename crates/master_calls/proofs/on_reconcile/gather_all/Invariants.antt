@@ -1,6 +1,6 @@
 use Rattle.std.proofs.Common.{◌≡◌, [], fold, take}
 use Rattle.offer_tables.specs.Held.{placed_of}
-use Rattle.agent_sides.specs.Looks.{all_placed}
+use Rattle.master_agents.specs.Looks.{all_placed}
 use Rattle.master_calls.specs.Reconciles.{gathers_found}
 use Rattle.master_calls.proofs.on_reconcile.gather_all.Given as goal
 

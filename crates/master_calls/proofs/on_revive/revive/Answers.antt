@@ -1,6 +1,6 @@
 use Rattle.std.proofs.Common.{refl, sym, ◌∙◌}
 use Rattle.cluster_model.specs.Calls.{on_revive}
-use Rattle.frameworks.specs.Frameworks.{revived}
+use Rattle.master_state.specs.Frameworks.{revived}
 use Rattle.master_state.specs.Works.{master_of}
 use Rattle.master_calls.proofs.Calling.{changed_so, turned_down}
 use Rattle.master_calls.proofs.on_revive.revive.Goals as goal

@@ -1,6 +1,6 @@
 use Rattle.std.proofs.Common.{refl, sym, ◌∙◌}
 use Rattle.cluster_model.specs.Calls.{on_suppress}
-use Rattle.frameworks.specs.Frameworks.{suppressed}
+use Rattle.master_state.specs.Frameworks.{suppressed}
 use Rattle.master_state.specs.Works.{master_of}
 use Rattle.master_calls.proofs.Calling.{changed_so, turned_down}
 use Rattle.master_calls.proofs.on_revive.suppress.Goals as goal

@@ -1,6 +1,6 @@
 use Rattle.std.proofs.Common.{◌<◌, ap, sym, ◌∙◌, subst}
 use Rattle.cluster_model.specs.Ids.{last_number}
-use Rattle.agent_sides.proofs.Joining.{on_ok}
+use Rattle.master_agents.proofs.Joining.{on_ok}
 use Rattle.master_state.specs.Works.{work_of}
 use Rattle.master_calls.specs.Streams.{entered}
 use Rattle.master_calls.proofs.Subscribing.{entered_so, left_streams}

@@ -1,7 +1,7 @@
 use Rattle.std.proofs.Common.{sym, ◌∙◌, ap}
 use Rattle.quantity.specs.Rows.{plus_rows}
 use Rattle.cluster_model.specs.Sides.{offer_rows}
-use Rattle.agent_sides.proofs.Owning.{plus_joined}
+use Rattle.master_agents.proofs.Owning.{plus_joined}
 use Rattle.master_core.proofs.offered.sum_of.Goals as goal
 
 pub loop-offer-preserved : goal.loop-offer-preserved

@@ -1,6 +1,6 @@
 use Rattle.std.proofs.Common.{◌≡◌, ◌≤◌, ◌++◌, true, ap, sym, ◌∙◌, subst, List, flat_map, length}
-use Rattle.agent_sides.proofs.Joining.{on_ok}
-use Rattle.frameworks.specs.Frameworks.{are_ordered}
+use Rattle.master_agents.proofs.Joining.{on_ok}
+use Rattle.master_state.specs.Frameworks.{are_ordered}
 use Rattle.master_state.specs.declared.state.State.{State}
 use Rattle.cluster_model.specs.Sides.{Side}
 use Rattle.cluster_model.specs.Rounds.{entered}

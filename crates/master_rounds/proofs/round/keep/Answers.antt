@@ -1,8 +1,8 @@
 use Rattle.std.proofs.Common.{ap, ◌∙◌}
 use Rattle.quantity.specs.Rows.{amount}
 use Rattle.drf_pick.specs.Shown.{counted_of}
-use Rattle.frameworks.specs.LastRound.{clients_of}
-use Rattle.round_shares.proofs.Registered.{clients_once}
+use Rattle.master_state.specs.LastRound.{clients_of}
+use Rattle.master_rounds.proofs.Registered.{clients_once}
 use Rattle.master_rounds.proofs.round.keep.Goals as goal
 
 pub keep_shares-requires : goal.keep_shares-requires

@@ -1,11 +1,12 @@
 use Rattle.std.proofs.Common.{◌++◌, List, map, ap, sym, subst, ◌∙◌}
-use Rattle.mails.specs.declared.framework.Framework.{Framework}
+use Rattle.messages.specs.declared.framework.Framework.{Framework}
 use Rattle.drf_pick.specs.Shown.{TallyShows, counted_of}
-use Rattle.frameworks.specs.LastRound.{clients_of}
+use Rattle.master_state.specs.LastRound.{clients_of}
 use Rattle.master_rounds.specs.Visits.{KeepsRoom, Progress, allocation_by, begins}
 use Rattle.master_rounds.proofs.Bounds.{sides_add_up, totals_add_up}
 use Rattle.master_rounds.proofs.Keeping.{begins_shown, knowing, round_owned, round_shown, round_so}
-use Rattle.master_rounds.proofs.SendingAll.{Holds, round_room}
+use Rattle.master_rounds.proofs.SendingAll.{Holds, made_can, round_room}
+use Rattle.master_rounds.specs.News.{CanAllBeMade}
 use Rattle.master_rounds.proofs.round.next_offers.Goals as goal
 
 pub shares_of-requires-clause-allocated : goal.shares_of-requires-clause-allocated
@@ -58,3 +59,12 @@ returns-clause-round c =
 
 pub returns-clause-state : goal.returns-clause-state
 returns-clause-state c = c.keep.ensures ∙ ap (knowing c.args.state.now) (c.keep_starts.ensures ∙ c.take_starts-starts.ensures.same ∙ c.in_ok-counted.ensures.same)
+
+pub returns-clause-can : goal.returns-clause-can
+returns-clause-can c =
+    let s = c.args.state.now in
+    let k = c.in_ok-counted.counted in
+    let p = c.in_ok-progress.progress in
+    let so = round_so s c.take_starts-starts.new.self k.shares p c.in_ok-progress.ensures.progress (c.take_starts-starts.ensures.same ∙ c.in_ok-counted.ensures.same) in
+    let holds : Holds s = record { ordered = c.as_slice-ordered.ensures.ordered; names = c.requires.names; rows = c.requires.rows; fit = c.requires.fits } in
+    subst (λ os. CanAllBeMade os s.sides) (sym (ap (λ (q : Progress). q.made) so)) (made_can c.args.weights.now s k.shares holds (begins_shown c.args.weights.now s k c.in_ok-counted.ensures.shares))

@@ -1,6 +1,6 @@
 use Rattle.std.proofs.Common.{Result, Ok, Err, OnOk, subst, sym}
-use Rattle.round_shares.specs.Candidates.{AreCandidates}
-use Rattle.round_shares.proofs.AtPlaces.{candidates_kept}
+use Rattle.master_rounds.specs.Candidates.{AreCandidates}
+use Rattle.master_rounds.proofs.AtPlaces.{candidates_kept}
 use Rattle.master_rounds.specs.Visits.{Progress}
 use Rattle.master_rounds.proofs.visit.offer_free.Goals as goal
 

@@ -1,6 +1,6 @@
 use Rattle.std.proofs.Common.{None, ap, ◌∙◌, arith}
 use Rattle.roster.specs.Places.{value_at}
-use Rattle.agent_sides.specs.Free.{open_part}
+use Rattle.master_agents.specs.Free.{open_part}
 use Rattle.master_rounds.specs.Visits.{visits_part}
 use Rattle.master_rounds.proofs.Visiting.{visited_more}
 use Rattle.master_rounds.proofs.visit.visit_all.Goals as goal

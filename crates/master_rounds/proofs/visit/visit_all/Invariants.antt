@@ -1,6 +1,6 @@
 use Rattle.std.proofs.Common.{◌≡◌, ◌<◌, take, fold}
-use Rattle.frameworks.specs.Starts.{AreStarts}
-use Rattle.round_shares.specs.Candidates.{AreCandidates}
+use Rattle.master_state.specs.Starts.{AreStarts}
+use Rattle.master_rounds.specs.Candidates.{AreCandidates}
 use Rattle.master_rounds.specs.Visits.{visits}
 use Rattle.master_rounds.proofs.visit.visit_all.Given as goal
 

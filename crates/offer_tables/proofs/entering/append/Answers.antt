@@ -1,6 +1,6 @@
 use Rattle.std.proofs.Common.{◌≡◌, true, false, bytes_eq, ◌++◌, ◌∷◌, [], refl, sym, ap, subst, ◌∙◌, arith}
 use Rattle.std.specs.List.{list_any}
-use Rattle.offer_rows.proofs.Standing.{on_err}
+use Rattle.offer_book.proofs.Standing.{on_err}
 use Rattle.offer_tables.specs.Rows.{IsBook, accounts}
 use Rattle.offer_tables.specs.declared.agents.AgentRow.{AgentRow}
 use Rattle.offer_tables.proofs.Amounts.{row_fresh}

@@ -1,6 +1,6 @@
 use Rattle.std.proofs.Common.{◌≡◌, ◌≤◌, true, List, length, take, subst}
 use Rattle.std.specs.List.{list_all}
-use Rattle.mails.specs.declared.record.RecordedTask.{RecordedTask}
+use Rattle.messages.specs.declared.record.RecordedTask.{RecordedTask}
 use Rattle.agent_core.specs.Drafts.{agent_of}
 use Rattle.agent_core.specs.Spared.{spares}
 use Rattle.agent_core.proofs.Recorded.{none_done}

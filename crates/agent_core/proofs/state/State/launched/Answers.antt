@@ -1,7 +1,7 @@
 use Rattle.std.proofs.Common.{◌≡◌, List, length, ap, ◌∙◌}
 use Rattle.std.specs.List.{insert, take_while}
 use Rattle.names_core.specs.Ids.{before}
-use Rattle.mails.specs.declared.record.RecordedTask.{RecordedTask}
+use Rattle.messages.specs.declared.record.RecordedTask.{RecordedTask}
 use Rattle.cluster_model.specs.Agents.{launched_task}
 use Rattle.agent_core.proofs.Recorded.{launched_placed}
 use Rattle.agent_core.proofs.state.State.launched.Goals as goal

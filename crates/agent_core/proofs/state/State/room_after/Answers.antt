@@ -1,8 +1,8 @@
 use Rattle.std.proofs.Common.{Option, Some, None, Result, Ok, Err, IfOk, IfSome, inl, inr, sym, subst, ◌++◌}
-use Rattle.mails.specs.declared.mail.Command.{Command}
-use Rattle.mails.specs.declared.mail.Command.TheVariants.{Launch}
+use Rattle.messages.specs.declared.mail.Command.{Command}
+use Rattle.messages.specs.declared.mail.Command.TheVariants.{Launch}
 use Rattle.cluster_model.specs.Agents.{live_tasks, task_rows, tasks_after}
-use Rattle.recorded_tasks.specs.Room.{Leaves}
+use Rattle.agent_core.specs.Room.{Leaves}
 use Rattle.agent_core.specs.Records.{HasRoom, with_other_tasks}
 use Rattle.agent_core.proofs.Recorded.{LaunchesNothing, command_leaves, launched_leaves}
 use Rattle.agent_core.proofs.state.State.room_after.Goals as goal

@@ -1,7 +1,7 @@
 use Rattle.std.proofs.Common.{◌≡◌, true, List, subst}
 use Rattle.std.specs.List.{AllByRecursion as Each}
 use Rattle.stream_core.specs.Updates.{are_updates}
-use Rattle.mails.specs.declared.record.RecordedTask.{RecordedTask}
+use Rattle.messages.specs.declared.record.RecordedTask.{RecordedTask}
 use Rattle.agent_core.proofs.Recorded.{stated_leaves, stated_recorded}
 use Rattle.agent_core.proofs.state.State.stated_is_record.Goals as goal
 

@@ -1,7 +1,7 @@
 use Rattle.std.proofs.Common.{◌≡◌, ◌<◌, List, length, get_or, Option, ap, sym, subst, ◌∙◌, arith}
 use Rattle.quantity.specs.declared.rows.Row.{Row}
 use Rattle.cluster_model.specs.Rounds.{Share}
-use Rattle.share_sums.specs.Dominant.{IsDominant}
+use Rattle.drf_shares.specs.Dominant.{IsDominant}
 use Rattle.drf_pick.specs.Shares.{RoleSum, Tally, is_holder, is_role}
 use Rattle.drf_pick.specs.ClientShares.{IsPlaceOf}
 use Rattle.drf_pick.specs.Fractions.{holder_held, role_held}

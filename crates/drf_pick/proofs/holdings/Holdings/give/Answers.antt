@@ -1,7 +1,7 @@
 use Rattle.std.proofs.Common.{◌≡◌, List, None, Some, true, refl, ap, sym, subst, ◌∙◌}
 use Rattle.std.specs.Prelude.{is_some}
 use Rattle.std.specs.List.{find, position}
-use Rattle.share_sums.specs.Sums.{CanAdd}
+use Rattle.drf_shares.specs.Sums.{CanAdd}
 use Rattle.drf_pick.specs.RoleSums.{AreSums}
 use Rattle.drf_pick.specs.Shares.{AreUpTo, CanHold, Holder, HoldersOnce, RoleSum, Tally, all_held, given, given_holders, given_roles, given_to, holding, is_holder}
 use Rattle.drf_pick.proofs.ChangedShares.{given_registered}

@@ -2,7 +2,7 @@ use Rattle.std.proofs.Common.{◌≡◌, ◌++◌, ◌∷◌, None, Some, [], Li
 use Rattle.quantity.specs.declared.rows.Row.{Row}
 use Rattle.quantity.specs.Rows.{amount}
 use Rattle.quantity.proofs.Sums.{sums_add_up}
-use Rattle.share_sums.specs.Sums.{CanAdd, plus_rows}
+use Rattle.drf_shares.specs.Sums.{CanAdd, plus_rows}
 use Rattle.std.specs.List.{find}
 use Rattle.drf_pick.specs.RoleSums.{AreSums}
 use Rattle.drf_pick.specs.Shares.{AreUpTo, CanHold, Holder, HoldersOnce, Tally, all_held, holder_with, is_holder, role_given}

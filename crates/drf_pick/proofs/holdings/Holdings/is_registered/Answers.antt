@@ -1,7 +1,7 @@
 use Rattle.std.proofs.Common.{◌≡◌, Option, Some, None, IfSome, ap, sym, subst, ◌∙◌}
 use Rattle.std.specs.Prelude.{is_some}
 use Rattle.std.specs.List.{find, position}
-use Rattle.share_sums.specs.Sums.{IsSum}
+use Rattle.drf_shares.specs.Sums.{IsSum}
 use Rattle.drf_pick.specs.Shares.{Holder, Tally, is_holder, is_role}
 use Rattle.drf_pick.specs.Shown.{HoldSums}
 use Rattle.drf_pick.proofs.Places.{first_at, none_at}

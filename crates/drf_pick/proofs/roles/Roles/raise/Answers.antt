@@ -2,7 +2,7 @@ use Rattle.std.proofs.Common.{◌≡◌, ◌++◌, ◌∷◌, [], List, Option, 
 use Rattle.std.specs.List.{find, position}
 use Rattle.std.specs.BTreeMap.{get_by_text}
 use Rattle.quantity.specs.declared.rows.Row.{Row}
-use Rattle.share_sums.specs.Sums.{CanAdd, plus_rows}
+use Rattle.drf_shares.specs.Sums.{CanAdd, plus_rows}
 use Rattle.drf_pick.specs.Least.{role_share}
 use Rattle.drf_pick.specs.Shares.{RoleSum, at_first, is_role, role_holding, role_sum_of, role_sum_with, roles_with}
 use Rattle.drf_pick.proofs.Places.{first_at, last_changed, none_at}

@@ -2,8 +2,8 @@ use Rattle.std.proofs.Common.{rules, ◌≡◌, ◌∙◌, IsTrue, subst, sym}
 use Rattle.sqlite.specs.Effect.{Database}
 use Rattle.sqlite.specs.Held.{state}
 use Rattle.sqlite.specs.State.{HasCleanDisk, Survives}
-use Rattle.record_saves.specs.Kept.{AreSeen, Knows}
-use Rattle.keep_rows.specs.Tables.{IsReady, Shows, Stays}
+use Rattle.keep_store.specs.SavesKept.{AreSeen, Knows}
+use Rattle.keep_tables.specs.Tables.{IsReady, Shows, Stays}
 use Rattle.keep_store.proofs.KnownLemmas.{if_known_holds}
 use Rattle.keep_store.proofs.keeper.Keeper.load.Goals as goal
 

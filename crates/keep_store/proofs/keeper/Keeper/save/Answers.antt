@@ -1,8 +1,8 @@
 use Rattle.std.proofs.Common.{◌∙◌, Some, IsTrue, inl, inr, ap, ap₂, subst, sym}
 use Rattle.sqlite.specs.Held.{state}
 use Rattle.sqlite.specs.State.{HasCleanDisk}
-use Rattle.record_saves.specs.Kept.{AreSeen, IsHeadSeen, Knows, KnowsHead, kept_in, with_record}
-use Rattle.keep_rows.specs.Tables.{IsReady}
+use Rattle.keep_store.specs.SavesKept.{AreSeen, IsHeadSeen, Knows, KnowsHead, kept_in, with_record}
+use Rattle.keep_tables.specs.Tables.{IsReady}
 use Rattle.keep_store.proofs.KnownLemmas.{if_known_holds, head_put, head_known}
 use Rattle.keep_store.proofs.keeper.Keeper.save.Goals as goal
 

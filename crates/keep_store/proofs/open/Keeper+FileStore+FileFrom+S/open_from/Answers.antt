@@ -3,7 +3,7 @@ use Rattle.std.proofs.lemmas.Result.{IfErr-weaker, IfOk-at_ok, IfOk-weaker}
 use Rattle.sqlite.specs.Effect.{Database}
 use Rattle.sqlite.specs.Files.{file_state}
 use Rattle.sqlite_catalog.specs.Listing.{IsSound}
-use Rattle.keep_rows.specs.Tables.{IsKnown}
+use Rattle.keep_tables.specs.Tables.{IsKnown}
 use Rattle.keep_store.proofs.OpenLemmas.{not_new, not_first, not_second, some_and}
 use Rattle.keep_store.proofs.open.Keeper+FileStore+FileFrom+S.open_from.Goals as goal
 

@@ -1,7 +1,7 @@
 use Rattle.std.proofs.Common.{[], ap, refl}
 use Rattle.std.proofs.lemmas.Result.{err_from_is_err_and}
 use Rattle.master_state.specs.declared.state.Outs.{Outs}
-use Rattle.mails.specs.declared.mail.ToAgent.{ToAgent}
+use Rattle.messages.specs.declared.mail.ToAgent.{ToAgent}
 use Rattle.std.specs.Prelude.{List}
 use Rattle.master_core.proofs.Starting.{fresh_fits, greets}
 use Rattle.master_core.proofs.master.Master.start.Goals as goal

@@ -1,6 +1,6 @@
 use Rattle.std.proofs.Common.{◌≡◌, IfOk, ap, subst}
 use Rattle.quantity.specs.Rows.{rest_of}
-use Rattle.offer_rows.specs.Lists.{list_at}
+use Rattle.offer_book.specs.Lists.{list_at}
 use Rattle.offer_tables.specs.Accounts.{free, taken_by}
 use Rattle.offer_tables.proofs.account.AccountAt.free.Goals as goal
 

@@ -1,6 +1,6 @@
 use Rattle.std.proofs.Common.{◌≡◌, zero, true, false, ◌++◌, ◌∷◌, [], get_or, is_some, None, Some, Ok, sym, ap, subst, ◌∙◌, arith}
 use Rattle.quantity.specs.Rows.{covers}
-use Rattle.offer_rows.specs.Lists.{list_at, find_from}
+use Rattle.offer_book.specs.Lists.{list_at, find_from}
 use Rattle.offer_tables.specs.Accounts.{taken_by, unended_rows, with_task}
 use Rattle.offer_tables.specs.Books.{booked}
 use Rattle.offer_tables.specs.Rows.{IsLeft, IsPlaceOf, TakesMore, account}

@@ -1,8 +1,8 @@
 use Rattle.std.proofs.Common.{◌≡◌, true, false, zero, is_some, None, Some, Ok, map, refl, sym, ap, ◌∙◌}
-use Rattle.offer_rows.specs.Lists.{find_from}
-use Rattle.offer_rows.specs.Changes.{ended}
-use Rattle.offer_rows.proofs.Changing.{ended_stays}
-use Rattle.offer_rows.proofs.Taking.{here_is}
+use Rattle.offer_book.specs.Lists.{find_from}
+use Rattle.offer_book.specs.Changes.{ended}
+use Rattle.offer_book.proofs.Changing.{ended_stays}
+use Rattle.offer_book.proofs.Taking.{here_is}
 use Rattle.offer_tables.specs.Accounts.{unended_rows, with_ended}
 use Rattle.offer_tables.specs.Books.{is_booked}
 use Rattle.offer_tables.specs.Rows.{accounts}

@@ -1,6 +1,6 @@
 use Rattle.std.proofs.Common.{◌≡◌, true, false, None, Some, Ok, refl, sym, ap, subst, ◌∙◌}
 use Rattle.std.specs.Cmp.Lexicographic.{bytes_decides}
-use Rattle.offer_rows.specs.Lists.{list_at}
+use Rattle.offer_book.specs.Lists.{list_at}
 use Rattle.offer_tables.specs.Accounts.{new_account}
 use Rattle.offer_tables.specs.Books.{entered, entered_at, is_named_so}
 use Rattle.offer_tables.specs.Rows.{IsEmptied, IsFirst, accounts, is_row_named}

@@ -1,6 +1,6 @@
 use Rattle.std.proofs.Common.{◌≡◌, true, false, zero, is_some, None, Some, Ok, map, refl, sym, ap, ◌∙◌}
-use Rattle.offer_rows.specs.Lists.{find_from, without}
-use Rattle.offer_rows.proofs.Taking.{here_is}
+use Rattle.offer_book.specs.Lists.{find_from, without}
+use Rattle.offer_book.proofs.Taking.{here_is}
 use Rattle.offer_tables.specs.Accounts.{unended_rows, without_key}
 use Rattle.offer_tables.specs.Books.{is_booked}
 use Rattle.offer_tables.specs.Rows.{account, accounts}

@@ -1,6 +1,6 @@
 use Rattle.std.proofs.Common.{get_or, refl, sym, ap, subst, ◌∙◌}
 use Rattle.std.specs.List.{IsDistinct}
-use Rattle.offer_rows.specs.Lists.{same_id}
+use Rattle.offer_book.specs.Lists.{same_id}
 use Rattle.offer_tables.specs.Accounts.{is_of_framework}
 use Rattle.offer_tables.proofs.Only.{index_fails_at, index_nowhere, index_passes_at}
 use Rattle.offer_tables.proofs.book.OfferBook.forget_at.Goals as goal

@@ -1,6 +1,6 @@
 use Rattle.std.proofs.Common.{◌≡◌, ◌+◌, ◌∷◌, [], drop, refl, sym, ap, ◌∙◌}
 use Rattle.std.proofs.lemmas.List.{drop_more, drop_all}
-use Rattle.offer_rows.specs.Lists.{at_place}
+use Rattle.offer_book.specs.Lists.{at_place}
 use Rattle.offer_tables.specs.Accounts.{after_commands}
 use Rattle.offer_tables.proofs.Only.{at_place-twice}
 use Rattle.offer_tables.proofs.Ridding.{at_place-none}

@@ -1,5 +1,5 @@
 use Rattle.std.proofs.Common.{◌≡◌, drop}
-use Rattle.offer_rows.specs.Lists.{at_place}
+use Rattle.offer_book.specs.Lists.{at_place}
 use Rattle.offer_tables.specs.Accounts.{after_commands}
 use Rattle.offer_tables.proofs.book.OfferBook.forget_by_at.Given as goal
 

@@ -1,5 +1,5 @@
 use Rattle.std.proofs.Common.{◌≡◌, ◌≤◌, length}
-use Rattle.offer_rows.specs.Lists.{at_place}
+use Rattle.offer_book.specs.Lists.{at_place}
 use Rattle.offer_tables.specs.Accounts.{is_of_framework}
 use Rattle.offer_tables.specs.Found.{tasks_on}
 use Rattle.offer_tables.proofs.Only.{kept_from}

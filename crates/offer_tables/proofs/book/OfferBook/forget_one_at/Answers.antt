@@ -1,7 +1,7 @@
 use Rattle.std.proofs.Common.{◌∷◌, [], refl, sym, ap, ◌∙◌}
-use Rattle.mails.specs.declared.mail.Command.{Command}
-use Rattle.mails.specs.declared.mail.Command.TheVariants.{Kill, Launch}
-use Rattle.offer_rows.specs.Lists.{at_place}
+use Rattle.messages.specs.declared.mail.Command.{Command}
+use Rattle.messages.specs.declared.mail.Command.TheVariants.{Kill, Launch}
+use Rattle.offer_book.specs.Lists.{at_place}
 use Rattle.offer_tables.specs.Accounts.{after_commands}
 use Rattle.offer_tables.proofs.Ridding.{at_place-none}
 use Rattle.offer_tables.proofs.book.OfferBook.forget_one_at.Goals as goal

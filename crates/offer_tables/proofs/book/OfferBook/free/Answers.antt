@@ -1,5 +1,5 @@
 use Rattle.std.proofs.Common.{None, Some, Ok, sym, ap, subst, ◌∙◌}
-use Rattle.offer_rows.specs.Lists.{list_at}
+use Rattle.offer_book.specs.Lists.{list_at}
 use Rattle.offer_tables.specs.Accounts.{taken_by}
 use Rattle.offer_tables.specs.Books.{free_of}
 use Rattle.offer_tables.specs.Rows.{IsPlaceOf}

@@ -1,7 +1,7 @@
 use Rattle.std.proofs.Common.{◌≡◌, ◌-◌, zero, get_or, None, Some, sym, ap, subst, ◌∙◌, arith}
 use Rattle.std.specs.Option.{option_copied}
-use Rattle.offer_rows.specs.Held.{IsHeld}
-use Rattle.offer_rows.proofs.Taking.{here_is}
+use Rattle.offer_book.specs.Held.{IsHeld}
+use Rattle.offer_book.proofs.Taking.{here_is}
 use Rattle.offer_tables.specs.Held.{held}
 use Rattle.offer_tables.proofs.Holding.{held_none, held_some}
 use Rattle.offer_tables.proofs.Books.{task_within}

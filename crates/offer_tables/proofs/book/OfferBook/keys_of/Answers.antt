@@ -1,7 +1,7 @@
 use Rattle.std.proofs.Common.{◌≡◌, IfOk, subst, ◌∙◌}
 use Rattle.names_core.specs.Ids.{Numbered}
-use Rattle.offer_rows.specs.Names.{is_among}
-use Rattle.offer_rows.proofs.Gathering.{if_ok_map}
+use Rattle.offer_book.specs.Names.{is_among}
+use Rattle.offer_book.proofs.Gathering.{if_ok_map}
 use Rattle.offer_tables.specs.Held.{AreKeyed, all_placed, is_framework_of, placed_of}
 use Rattle.offer_tables.proofs.Holding.{framework_so, keyed}
 use Rattle.offer_tables.proofs.book.OfferBook.keys_of.Goals as goal

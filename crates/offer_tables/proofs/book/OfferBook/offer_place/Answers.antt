@@ -1,10 +1,10 @@
 use Rattle.std.proofs.Common.{◌≡◌, zero, true, Option, None, Some, MatchOption, option_copied, sym, subst, ◌∙◌}
 use Rattle.names_core.specs.Ids.{same}
-use Rattle.mails.specs.declared.task.Offer.{Offer}
-use Rattle.offer_rows.specs.declared.located.Located.{Located}
-use Rattle.offer_rows.specs.Lists.{find_from}
-use Rattle.offer_rows.proofs.Changing.{same_turned}
-use Rattle.offer_rows.proofs.Standing.{find_has}
+use Rattle.messages.specs.declared.task.Offer.{Offer}
+use Rattle.offer_book.specs.declared.located.Located.{Located}
+use Rattle.offer_book.specs.Lists.{find_from}
+use Rattle.offer_book.proofs.Changing.{same_turned}
+use Rattle.offer_book.proofs.Standing.{find_has}
 use Rattle.offer_tables.specs.Places.{IsNowhere, IsOnlyFrom}
 use Rattle.offer_tables.proofs.Whereabouts.{no_offer, only_offer}
 use Rattle.offer_tables.proofs.book.OfferBook.offer_place.Goals as goal

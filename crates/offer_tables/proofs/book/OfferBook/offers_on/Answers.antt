@@ -1,6 +1,6 @@
 use Rattle.std.proofs.Common.{map, sym, ap, subst, ◌∙◌}
 use Rattle.std.specs.List.{IsDistinct}
-use Rattle.offer_rows.specs.Lists.{same_id}
+use Rattle.offer_book.specs.Lists.{same_id}
 use Rattle.offer_tables.specs.Found.{offers_on}
 use Rattle.offer_tables.proofs.Booking.{offers_there}
 use Rattle.offer_tables.proofs.Whereabouts.{distinct_there}

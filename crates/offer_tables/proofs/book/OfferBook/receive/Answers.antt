@@ -1,8 +1,8 @@
 use Rattle.std.proofs.Common.{◌≡◌, zero, None, map, refl, sym, ap, ◌∙◌}
 use Rattle.cluster_model.specs.Sides.{received_update}
-use Rattle.offer_rows.specs.Lists.{find_from}
-use Rattle.offer_rows.proofs.Changing.{received_stays}
-use Rattle.offer_rows.proofs.Taking.{here_is, map_nowhere}
+use Rattle.offer_book.specs.Lists.{find_from}
+use Rattle.offer_book.proofs.Changing.{received_stays}
+use Rattle.offer_book.proofs.Taking.{here_is, map_nowhere}
 use Rattle.offer_tables.specs.Accounts.{receiving}
 use Rattle.offer_tables.specs.Books.{received}
 use Rattle.offer_tables.specs.Rows.{accounts}

@@ -1,5 +1,5 @@
 use Rattle.std.proofs.Common.{◌≡◌, ◌-◌, zero, get_or, sym, ap, subst, ◌∙◌, arith}
-use Rattle.offer_rows.proofs.Taking.{here_is}
+use Rattle.offer_book.proofs.Taking.{here_is}
 use Rattle.offer_tables.specs.Found.{task_of}
 use Rattle.offer_tables.proofs.Booking.{task_found, task_nowhere}
 use Rattle.offer_tables.proofs.Books.{task_within}

@@ -1,15 +1,15 @@
 use Rattle.std.proofs.Common.{◌≡◌, zero, true, Option, None, Some, is_some, MatchOption, option_copied, sym, ap, subst, ◌∙◌}
 use Rattle.names_core.specs.Ids.{same}
-use Rattle.mails.specs.declared.task.Booked.{Booked}
-use Rattle.offer_rows.specs.declared.located.Located.{Located}
+use Rattle.messages.specs.declared.task.Booked.{Booked}
+use Rattle.offer_book.specs.declared.located.Located.{Located}
 use Rattle.std.specs.List.{list_any}
-use Rattle.offer_rows.specs.Lists.{find_from, list_at}
-use Rattle.offer_rows.proofs.Taking.{here_is}
+use Rattle.offer_book.specs.Lists.{find_from, list_at}
+use Rattle.offer_book.proofs.Taking.{here_is}
 use Rattle.offer_tables.specs.Accounts.{has_key}
 use Rattle.offer_tables.specs.Found.{tasks_on}
 use Rattle.offer_tables.proofs.Booking.{booked_first, tasks_there}
-use Rattle.offer_rows.proofs.Changing.{same_turned}
-use Rattle.offer_rows.proofs.Standing.{find_has}
+use Rattle.offer_book.proofs.Changing.{same_turned}
+use Rattle.offer_book.proofs.Standing.{find_has}
 use Rattle.offer_tables.specs.Places.{IsNowhere, IsOnlyFrom}
 use Rattle.offer_tables.proofs.Whereabouts.{no_task, only_task}
 use Rattle.offer_tables.proofs.book.OfferBook.task_place.Goals as goal

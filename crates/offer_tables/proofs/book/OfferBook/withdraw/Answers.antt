@@ -1,6 +1,6 @@
 use Rattle.std.proofs.Common.{◌≡◌, true, false, zero, is_some, None, Some, Ok, map, refl, sym, ap, ◌∙◌}
-use Rattle.offer_rows.specs.Lists.{find_from, without}
-use Rattle.offer_rows.proofs.Taking.{here_is}
+use Rattle.offer_book.specs.Lists.{find_from, without}
+use Rattle.offer_book.proofs.Taking.{here_is}
 use Rattle.offer_tables.specs.Accounts.{without_offer}
 use Rattle.offer_tables.specs.Books.{is_offered}
 use Rattle.offer_tables.specs.Rows.{account, accounts}

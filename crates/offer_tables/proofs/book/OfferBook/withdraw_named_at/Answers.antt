@@ -1,6 +1,6 @@
 use Rattle.std.proofs.Common.{◌≡◌, ◌+◌, ◌∷◌, [], drop, sym, ap, ◌∙◌}
 use Rattle.std.proofs.lemmas.List.{drop_more, drop_all}
-use Rattle.offer_rows.specs.Lists.{at_place}
+use Rattle.offer_book.specs.Lists.{at_place}
 use Rattle.offer_tables.specs.Accounts.{without_named}
 use Rattle.offer_tables.proofs.Only.{at_place-alike, at_place-twice}
 use Rattle.offer_tables.proofs.Ridding.{at_place-none, without_none, without_one}

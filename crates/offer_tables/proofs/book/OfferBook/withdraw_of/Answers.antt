@@ -1,5 +1,5 @@
 use Rattle.std.proofs.Common.{◌≡◌, ◌+◌, suc, sym, ap, subst, ◌∙◌, arith}
-use Rattle.offer_rows.specs.Lists.{at_place}
+use Rattle.offer_book.specs.Lists.{at_place}
 use Rattle.offer_tables.specs.Accounts.{without_offers_of}
 use Rattle.offer_tables.proofs.Ridding.{mapped_all, mapped_more, mapped_none, mapped_to}
 use Rattle.offer_tables.proofs.book.OfferBook.withdraw_of.Goals as goal

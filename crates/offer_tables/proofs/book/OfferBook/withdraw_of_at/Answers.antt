@@ -1,7 +1,7 @@
 use Rattle.std.proofs.Common.{◌≡◌, ◌<◌, ◌-◌, zero, suc, length, refl, sym, ap, subst, ◌∙◌, arith}
 use Rattle.std.proofs.lemmas.List.{length-map}
 use Rattle.cluster_model.specs.Masters.{is_of}
-use Rattle.offer_rows.specs.Lists.{at_place}
+use Rattle.offer_book.specs.Lists.{at_place}
 use Rattle.offer_tables.specs.Accounts.{Account, without_offer_at}
 use Rattle.offer_tables.specs.Found.{offers_on}
 use Rattle.offer_tables.proofs.Only.{at_place-alike, at_place-twice, at_same, at_there, kept_all, kept_from, kept_long, kept_none, kept_step, there_at}

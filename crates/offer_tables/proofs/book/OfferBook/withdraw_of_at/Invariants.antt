@@ -1,6 +1,6 @@
 use Rattle.std.proofs.Common.{◌≡◌, ◌≤◌, length}
 use Rattle.cluster_model.specs.Masters.{is_of}
-use Rattle.offer_rows.specs.Lists.{at_place}
+use Rattle.offer_book.specs.Lists.{at_place}
 use Rattle.offer_tables.specs.Found.{offers_on}
 use Rattle.offer_tables.proofs.Only.{kept_from}
 use Rattle.offer_tables.proofs.book.OfferBook.withdraw_of_at.Given as goal

@@ -1,6 +1,0 @@
-use Rattle.std.proofs.Common.{rules}
-use Rattle.activities.proofs.Unanswered.{shut_by_look}
-use Rattle.activities.proofs.declines.Watch.goes_on.Goals as goal
-
-pub returns : goal.returns
-returns g c = λ e. shut_by_look _ _ _ c.args.pass.now c.wait.result c.wait.ensures.over (c.has_ended.ensures (let h = e in search rules)) (λ state says. (let met = says.says.met in let shows = says.shows in search rules))

@@ -1,9 +1,0 @@
-use Rattle.std.specs.Fn.{FnReturnsAt}
-use Rattle.activities.proofs.Ends.{look_found, look_over}
-use Rattle.activities.proofs.declines.Watch.wait.Goals as goal
-
-pub returns-clause-found : goal.returns-clause-found
-returns-clause-found g c = look_found _ _ (λ state found. FnReturnsAt g.G.Fn c.args.look state found) c.wait_for.result c.found.result c.found.ensures c.wait_for.ensures.waited
-
-pub returns-clause-over : goal.returns-clause-over
-returns-clause-over g c = look_over _ _ g.D.Recorded.kind_of (λ state found. FnReturnsAt g.G.Fn c.args.look state found) c.args.pass.now c.wait_for.result c.found.result c.found.ensures c.wait_for.ensures.waited c.wait_for.ensures.refused

@@ -1,5 +1,0 @@
-use Rattle.activity_tests.proofs.outages.after_jam.Given as goal
-
--- the ledger of the blank that was just made
-abbrev pub ghosts-jammed : goal.ghosts-jammed
-ghosts-jammed g a = record { name = a.blank.name; parts = a.blank.parts }

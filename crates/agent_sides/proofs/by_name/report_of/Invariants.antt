@@ -1,7 +1,0 @@
-use Rattle.std.proofs.Common.{◌≡◌, drop, Ok, false}
-use Rattle.roster.specs.Sessions.{reported}
-use Rattle.agent_sides.specs.Looks.{value_of}
-use Rattle.agent_sides.proofs.by_name.report_of.Given as goal
-
-abbrev pub invariant-loop-entry : goal.invariant-loop-entry
-invariant-loop-entry l = value_of l.name (λ s. reported l.run s l.session l.number) (Ok false) (drop l.entry-index l.entries) ≡ value_of l.name (λ s. reported l.run s l.session l.number) (Ok false) l.entries

@@ -1,6 +1,0 @@
-use Rattle.std.proofs.Common.{◌≡◌, ◌++◌, take, flat_map}
-use Rattle.agent_sides.specs.ByName.{mails_at_tick}
-use Rattle.agent_sides.proofs.by_name.send_all.Given as goal
-
-abbrev pub invariant-loop-entry : goal.invariant-loop-entry
-invariant-loop-entry l = l.mails ≡ l.fn.mails ++ flat_map (mails_at_tick l.run) (take l.entry-index l.entries)

@@ -1,9 +1,0 @@
-use Rattle.std.proofs.Common.{◌≡◌, ◌+◌, drop}
-use Rattle.agent_sides.specs.Configs.{place_for}
-use Rattle.agent_sides.proofs.config.place_for.Given as goal
-
-abbrev pub invariant-loop-agent : goal.invariant-loop-agent
-invariant-loop-agent l = record {
-  place : l.place ≡ l.agent-index;
-  sum : l.place + place_for l.name (drop l.agent-index l.agents) ≡ place_for l.name l.agents;
-}

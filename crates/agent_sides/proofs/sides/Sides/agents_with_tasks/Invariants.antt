@@ -1,6 +1,0 @@
-use Rattle.std.proofs.Common.{◌≡◌, ◌++◌}
-use Rattle.agent_sides.proofs.Owning.{names_with_tasks}
-use Rattle.agent_sides.proofs.sides.Sides.agents_with_tasks.Given as goal
-
-abbrev pub invariant-loop-side : goal.invariant-loop-side
-invariant-loop-side l = l.names ++ names_with_tasks l.framework l.side-iterator ≡ names_with_tasks l.framework l.self

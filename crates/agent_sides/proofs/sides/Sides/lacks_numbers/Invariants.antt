@@ -1,6 +1,0 @@
-use Rattle.std.proofs.Common.{◌≡◌}
-use Rattle.agent_sides.proofs.Owning.{lacks}
-use Rattle.agent_sides.proofs.sides.Sides.lacks_numbers.Given as goal
-
-abbrev pub invariant-loop-side : goal.invariant-loop-side
-invariant-loop-side l = lacks l.framework l.side-iterator ≡ lacks l.framework l.self

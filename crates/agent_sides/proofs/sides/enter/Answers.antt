@@ -1,6 +1,0 @@
-use Rattle.std.proofs.Common.{refl, ◌∙◌}
-use Rattle.agent_sides.proofs.Changing.{entered_behind}
-use Rattle.agent_sides.proofs.sides.enter.Goals as goal
-
-pub returns-in-Ok : goal.returns-in-Ok
-returns-in-Ok c = entered_behind c.in_ok-name.name c.new.result c.args.book.now c.enter_agent.new.self c.requires c.in-Ok.ensures.ok ∙ rw (c.in_ok-name.ensures, c.new.ensures) refl

@@ -1,6 +1,0 @@
-use Rattle.std.proofs.Common.{take}
-use Rattle.agent_sides.proofs.Changing.{entered_present}
-use Rattle.agent_sides.proofs.sides.enter_all.Goals as goal
-
-pub enter-requires : goal.enter-requires
-enter-requires c = rw c.loop-agent.invariant.book (entered_present (take c.loop-agent.agent-index c.args.agents.now))

@@ -1,2 +1,0 @@
--- What a Report may have.
-pub use Rattle.side_fits.specs.Fits.{AreApart, AreBookable, KeysRise}

@@ -1,2 +1,0 @@
-pub mod Agents
-pub mod Files

@@ -1,0 +1,9 @@
+pub mod Handing
+pub mod Keeping
+pub mod Lists
+pub mod Linking
+pub mod Once
+pub mod Standing
+pub mod Receiving
+pub mod StreamsKeeping
+pub mod Histories

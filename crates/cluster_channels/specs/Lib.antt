@@ -1,0 +1,5 @@
+pub mod Numbers
+pub mod Queueing
+pub mod Stores
+pub mod Streams
+pub mod Kept

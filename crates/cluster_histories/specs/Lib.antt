@@ -1,2 +1,0 @@
-pub mod Clusters
-pub mod Steps

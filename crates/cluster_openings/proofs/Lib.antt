@@ -1,4 +1,0 @@
-pub mod FreshRecords
-pub mod Permuted
-pub mod InOrder
-pub mod Decided

@@ -1,5 +1,0 @@
-use Rattle.cluster_origin.proofs.Entries.{history_traced}
-use Rattle.cluster_origin.proofs.marks_come_from_entries.Goals as goal
-
-pub returns : goal.returns
-returns c = history_traced

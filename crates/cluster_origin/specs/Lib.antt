@@ -1,4 +1,0 @@
-pub mod Entries
-pub mod Launches
-pub mod Sources
-pub mod Acks

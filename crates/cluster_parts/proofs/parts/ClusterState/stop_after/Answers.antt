@@ -1,0 +1,21 @@
+use Rattle.std.proofs.Common.{[], ◌∙◌, refl, sym, subst}
+use Rattle.std.specs.Prelude.{slice_set}
+use Rattle.messages.specs.declared.steps.step.Step.TheVariants.{StopAgent}
+use Rattle.messages.specs.declared.steps.step.Keep.TheVariants.{After}
+use Rattle.messages.specs.declared.steps.verdict.Verdict.TheVariants as verdicts
+use Rattle.cluster_agents.specs.Agents.{KeptAgent}
+use Rattle.cluster_agents.specs.Moves.{Makes, kept_agents, sending}
+use Rattle.cluster_parts.proofs.Parting.{here, one_takes, some_open}
+use Rattle.cluster_parts.proofs.parts.ClusterState.stop_after.Goals as goal
+
+pub returns-clause-made : goal.returns-clause-made
+returns-clause-made g c = λ s of.
+    let p = c.args.self.now in
+    let name = c.args.name.now in
+    let place = c.in_ok-place.place in
+    let a = c.index_mut-agent.result.now in
+    let at = here s p c.as_slice.result.now name place a of c.as_slice.ensures.value c.in_ok-place.ensures.place c.in_ok-place.ensures.within c.index_mut-agent.ensures.value in
+    let draft = some_open a.part.draft (sym c.has_draft.ensures ∙ c.if-not-has_draft.false) in
+    one_takes s (StopAgent name After) c.ends_with.result _ p _ place c.stop_after.new.self of c.ends_with.ensures
+    (subst (λ (b : KeptAgent). Makes s (StopAgent name After) verdicts.Ok (sending []) (slice_set (kept_agents s) place b) p.served.items) (sym c.stop_after.ensures)
+    (c.stops_are_made.ensures.after s name place a draft.0 p.served.items of.reached of.stands.as_others.as_items at draft.1)) refl refl refl refl refl refl

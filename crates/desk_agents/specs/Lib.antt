@@ -1,0 +1,9 @@
+pub mod Asked
+pub mod Declines
+pub mod Ends
+pub mod Moments
+pub mod Opened
+pub mod Rounds
+pub mod Saved
+pub mod Seen
+pub mod Stops

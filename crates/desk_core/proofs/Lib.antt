@@ -1,0 +1,5 @@
+pub mod Answering
+pub mod Keeps
+pub mod Rows
+pub mod Walks
+pub mod Groups

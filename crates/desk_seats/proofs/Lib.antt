@@ -1,4 +1,0 @@
-pub mod Answering
-pub mod Keeps
-pub mod Rows
-pub mod Walks

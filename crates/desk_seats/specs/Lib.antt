@@ -1,6 +1,0 @@
-pub mod Found
-pub mod Kept
-pub mod Receipts
-pub mod Refused
-pub mod Seats
-pub mod Walked

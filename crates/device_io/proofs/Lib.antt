@@ -1,3 +1,0 @@
-pub mod Progress
-pub mod Reading
-pub mod Telling

@@ -1,6 +1,0 @@
-use Rattle.std.proofs.Common.{◌≡◌, ◌++◌, flat_map, take}
-use Rattle.entry_lines.specs.Lines.{closed_line}
-use Rattle.entry_lines.proofs.entry.push_closed.Given as goal
-
-abbrev pub invariant-loop-stream : goal.invariant-loop-stream
-invariant-loop-stream l = l.text.items ≡ l.fn.text.items ++ flat_map closed_line (take l.stream-index l.closed)

@@ -1,6 +1,0 @@
-use Rattle.std.proofs.Common.{◌≡◌, ◌++◌, codes, flat_map, take}
-use Rattle.entry_lines.specs.Lines.{event_line}
-use Rattle.entry_lines.proofs.entry.push_events.Given as goal
-
-abbrev pub invariant-loop-event : goal.invariant-loop-event
-invariant-loop-event l = l.text.items ≡ l.fn.text.items ++ flat_map (event_line (codes ">")) (take l.event-index l.events)

@@ -1,6 +1,0 @@
-use Rattle.std.proofs.Common.{◌≡◌, ◌++◌, ◌+◌, drop}
-use Rattle.entry_lines.specs.Lines.{sent_lines}
-use Rattle.entry_lines.proofs.entry.push_sent.Given as goal
-
-abbrev pub invariant-loop-one : goal.invariant-loop-one
-invariant-loop-one l = (l.number ≡ l.first + l.one-index) × (l.text.items ++ sent_lines l.word l.number (drop l.one-index l.sent) ≡ l.fn.text.items ++ sent_lines l.word l.first l.sent)

@@ -1,4 +1,0 @@
-pub mod Standing
-pub mod Receiving
-pub mod Keeping
-pub mod Histories

@@ -1,6 +1,0 @@
-use Rattle.std.proofs.Common.{◌≡◌, ◌++◌, map, take, drop}
-use Rattle.cluster_model.specs.Mails.{beaten}
-use Rattle.frameworks.proofs.edit.beat_in.Given as goal
-
-abbrev pub invariant-loop-i : goal.invariant-loop-i
-invariant-loop-i l = l.frameworks.items ≡ map (beaten l.now) (take l.i l.fn.frameworks.items) ++ drop l.i l.fn.frameworks.items

@@ -1,7 +1,0 @@
-use Rattle.std.proofs.Common.{rules, arith}
-use Rattle.std.proofs.lemmas.List.Edits.{map_over_more}
-use Rattle.cluster_model.specs.Masters.{clear_on}
-use Rattle.frameworks.proofs.edit.clear_in.Goals as goal
-
-pub loop-i-preserved : goal.loop-i-preserved
-loop-i-preserved c = rw c.clear_on.ensures (map_over_more (clear_on c.args.agent.now) c.args.frameworks.now.items c.loop-i.frameworks.items c.loop-i.i c.index_mut.result.now (omega (arith, c.len-i-end.ensures)) c.loop-i.invariant (search rules))

@@ -1,8 +1,0 @@
-use Rattle.std.proofs.Common.{rules, arith, length, option_map, ap}
-use Rattle.std.proofs.lemmas.List.Edits.{map_over_more}
-use Rattle.frameworks.specs.Starts.{cut_on}
-use Rattle.frameworks.proofs.starts.Starts.cut_on.Goals as goal
-
-pub loop-i-preserved : goal.loop-i-preserved
-loop-i-preserved c =
-    rw c.cut_one_on.ensures (map_over_more (option_map (cut_on c.args.agent.now c.args.place)) c.args.self.now c.loop-i.self-inside.items.items c.loop-i.i c.index_mut.result.now (omega (arith, c.len-i-end.ensures, ap length c.self.view_is)) c.loop-i.invariant (search rules))

@@ -1,4 +1,0 @@
-pub mod Frameworks
-pub mod OpenStreams
-pub mod LastRound
-pub mod Starts

@@ -1,7 +1,0 @@
-mod Parts
-mod Heads
-mod Chunks
-mod Bodies
-mod Requests
-mod Responses
-mod Exchanges

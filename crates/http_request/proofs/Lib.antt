@@ -1,4 +1,0 @@
-pub mod Chunked
-pub mod Heads
-pub mod Parts
-pub mod Pieces

@@ -1,3 +1,0 @@
-pub mod Requests
-pub mod Bodies
-pub mod Found

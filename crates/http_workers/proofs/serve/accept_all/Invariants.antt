@@ -1,6 +1,0 @@
-use Rattle.std.proofs.Common.{◌≡◌, ◌+◌}
-use Rattle.http_workers.proofs.serve.accept_all.Given as goal
-
--- so many were taken since the call began
-abbrev pub invariant-loop : goal.invariant-loop
-invariant-loop g l = g.A.Arrivals.taken l.arrivals ≡ g.A.Arrivals.taken l.initial.arrivals + l.taken

@@ -1,5 +1,0 @@
-use Rattle.http_workers.proofs.serve.serve_all.Given as goal
-
--- the ledger of the blank that was just made
-abbrev pub ghosts-serve_counted : goal.ghosts-serve_counted
-ghosts-serve_counted g a = record { name = a.blank.name; parts = a.blank.parts }

@@ -1,0 +1,3 @@
+pub mod ClosingLemmas
+pub mod Refused
+pub mod Folded

@@ -1,9 +1,0 @@
-pub mod TextLemmas
-pub mod RowLemmas
-pub mod StepLemmas
-pub mod ReadLemmas
-pub mod StoreLemmas
-pub mod QueryLemmas
-pub mod MakeLemmas
-pub mod ColumnLemmas
-pub mod TotalLemmas

@@ -1,6 +1,0 @@
-use Rattle.std.proofs.Common.{take}
-use Rattle.keep_rows.proofs.TotalLemmas.{AreRead}
-use Rattle.keep_rows.proofs.totals.total_of.Given as goal
-
-abbrev pub invariant-loop-row : goal.invariant-loop-row
-invariant-loop-row l = AreRead (take l.row-index l.rows) l.total

@@ -1,7 +1,0 @@
-use Rattle.std.proofs.Common.{◌≡◌, map, take}
-use Rattle.serde_json.specs.View.{view}
-use Rattle.mail_text.specs.Mails.{booked_data}
-use Rattle.mail_text.proofs.to_master.tasks_value.Given as goal
-
-abbrev pub invariant-loop-task : goal.invariant-loop-task
-invariant-loop-task l = map view l.values.items ≡ map booked_data (take l.task-index l.tasks)

@@ -1,4 +1,0 @@
-pub mod Declining
-pub mod Accepting
-pub mod Launching
-pub mod Accepted

@@ -1,7 +1,0 @@
-use Rattle.std.proofs.Common.{◌≡◌, [], take, drop, map}
-use Rattle.agent_sides.specs.Own.{holding}
-use Rattle.master_accept.specs.Declines.{refuses_each}
-use Rattle.master_accept.proofs.on_decline.refuse_each.Given as goal
-
-abbrev pub invariant-loop-i : goal.invariant-loop-i
-invariant-loop-i l = refuses_each l.by (map holding l.sides) l.frameworks (take l.i l.ids) (drop l.i l.ids) ≡ refuses_each l.by (map holding l.sides) l.fn.frameworks [] l.ids

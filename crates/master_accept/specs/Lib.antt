@@ -1,4 +1,0 @@
-pub mod Declines
-pub mod Holding
-pub mod Accepts
-pub mod Launches

@@ -1,7 +1,0 @@
-use Rattle.std.proofs.Common.{◌≡◌, take}
-use Rattle.std.specs.List.{fold}
-use Rattle.master_mails.specs.Steps.{ending}
-use Rattle.master_mails.proofs.opening.order_ends.Given as goal
-
-abbrev pub invariant-loop-framework : goal.invariant-loop-framework
-invariant-loop-framework l = l.state ≡ fold (ending l.agent) l.fn.state (take l.framework-index l.ends)

@@ -1,6 +1,0 @@
-use Rattle.std.proofs.Common.{◌≡◌, ◌++◌, flat_map}
-use Rattle.master_mails.specs.Sending.{loss_of}
-use Rattle.master_mails.proofs.sending.send_losses.Given as goal
-
-abbrev pub invariant-loop-task : goal.invariant-loop-task
-invariant-loop-task l = l.events ++ flat_map (loss_of l.frameworks l.agent l.reported) l.task-iterator ≡ l.fn.events ++ flat_map (loss_of l.frameworks l.agent l.reported) l.fn.tasks

@@ -1,6 +1,0 @@
-use Rattle.std.proofs.Common.{◌≡◌, ◌++◌, flat_map}
-use Rattle.master_mails.specs.Sending.{news}
-use Rattle.master_mails.proofs.sending.send_news.Given as goal
-
-abbrev pub invariant-loop-task : goal.invariant-loop-task
-invariant-loop-task l = l.events ++ flat_map (news l.frameworks l.agent l.update) l.task-iterator ≡ l.fn.events ++ flat_map (news l.frameworks l.agent l.update) l.fn.tasks

@@ -1,4 +1,0 @@
-pub mod Ending
-pub mod Sending
-pub mod Steps
-pub mod Reported

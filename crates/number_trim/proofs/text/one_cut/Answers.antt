@@ -1,8 +1,0 @@
-use Rattle.number_trim.proofs.Cutting.{one, cut}
-use Rattle.number_trim.proofs.text.one_cut.Goals as goal
-
-pub returns-clause-one : goal.returns-clause-one
-returns-clause-one c = one
-
-pub returns-clause-cut : goal.returns-clause-cut
-returns-clause-cut c = cut

@@ -1,5 +1,0 @@
-use Rattle.offer_rows.proofs.Standing.{stands}
-use Rattle.offer_rows.proofs.tasks.Tasks.find.Goals as goal
-
-pub returns-clause-once : goal.returns-clause-once
-returns-clause-once c = (stands (λ x. x.job.key) _ _ _ c.self.view_is c.self.invariant).once

@@ -1,9 +1,0 @@
-use Rattle.std.proofs.Common.{◌++◌, ◌∷◌, []}
-use Rattle.offer_rows.proofs.Standing.{id_lists_set, id_lists_same, on_err}
-use Rattle.offer_rows.proofs.tasks.push_key.Goals as goal
-
-pub returns-in_err-push-clause-err : goal.returns-in_err-push-clause-err
-returns-in_err-push-clause-err c = on_err _ (id_lists_same c.args.keys.now.items c.args.place c.index_mut.result.now c.push.new.self c.requires c.index_mut.ensures.value c.in_err-push.ensures.items)
-
-pub returns-clause-ok : goal.returns-clause-ok
-returns-clause-ok c = id_lists_set c.args.keys.now.items c.args.place c.index_mut.result.now c.push.new.self (λ ks. ks ++ c.args.key ∷ []) c.requires c.index_mut.ensures.value c.in_ok-push.ensures.items

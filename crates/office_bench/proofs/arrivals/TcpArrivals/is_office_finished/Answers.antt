@@ -1,5 +1,0 @@
-use Rattle.office_bench.proofs.Finding.{finished_by}
-use Rattle.office_bench.proofs.arrivals.TcpArrivals.is_office_finished.Goals as goal
-
-pub returns-in-Ok : goal.returns-in-Ok
-returns-in-Ok g c = λ ends. finished_by _ _ _ c.in-Ok.waited (c.is_end.ensures ends) c.in-Ok.ensures.waited

@@ -1,6 +1,0 @@
-use Rattle.std.proofs.Common.{◌≡◌}
-use Rattle.office_bench.proofs.arrivals.TcpArrivalsArrivals.next.Given as goal
-
--- a connection that fails isn't counted
-abbrev pub invariant-loop : goal.invariant-loop
-invariant-loop g l = l.self.taken ≡ l.initial.self.taken

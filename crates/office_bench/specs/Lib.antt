@@ -1,4 +1,0 @@
-pub mod Answers
-pub mod Arrivals
-pub mod Deeds
-pub mod Seated

@@ -1,5 +1,0 @@
-use Rattle.record_saves.proofs.StepLemmas.{quiet_itself}
-use Rattle.record_saves.proofs.save.write_amounts.Goals as goal
-
-pub returns-then-is_total_of-clause-quiet : goal.returns-then-is_total_of-clause-quiet
-returns-then-is_total_of-clause-quiet g c = quiet_itself _

@@ -1,3 +1,0 @@
-pub mod Texts
-pub mod Written
-pub mod Reading

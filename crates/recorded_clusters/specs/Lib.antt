@@ -1,3 +1,0 @@
-pub mod Recording
-pub mod Answering
-pub mod Offers

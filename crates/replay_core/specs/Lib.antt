@@ -1,0 +1,5 @@
+pub mod Stories
+pub mod Outcomes
+pub mod Tables
+pub mod Replays
+pub mod Laws

@@ -1,7 +1,0 @@
-use Rattle.std.proofs.Common.{◌∙◌, ap}
-use Rattle.replayed_clusters.specs.Stories.{greetings}
-use Rattle.replayed_clusters.proofs.Clusters.{greetings_there}
-use Rattle.replayed_clusters.proofs.replayed.Replayed.greetings.Goals as goal
-
-pub returns : goal.returns
-returns c = c.as_slice.ensures ∙ (greetings_there c.self.inside.cluster.story c.opened.result.now c.opened.ensures ∙ ap greetings c.self.view_is)

@@ -1,3 +1,0 @@
-pub mod Stories
-pub mod Outcomes
-pub mod Tables

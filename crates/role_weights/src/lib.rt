@@ -1,7 +1,0 @@
-//! The weights of roles: how much of the whole each role's frameworks are to get,
-//! beside the others (DRF paper, section 4.3).
-#![tactic(auto)]
-
-mod weights;
-
-pub use weights::Weights;

@@ -1,9 +1,0 @@
-use Rattle.std.proofs.Common.{nat_lt, ap, ◌∙◌}
-use Rattle.quantity.specs.Rows.{amount}
-use Rattle.share_sums.proofs.Summing.{first_is}
-use Rattle.share_sums.proofs.sum.Sum.has_some.Goals as goal
-
-pub returns : goal.returns
-returns c =
-    ap (nat_lt 0) (c.amount_of.ensures
-    ∙ (rw c.deref.ensures.value (first_is c.args.name.now c.self.inside.rows.items c.self.invariant.ordered) ∙ ap (amount c.args.name.now) c.self.view_is))

@@ -1,6 +1,0 @@
-use Rattle.std.proofs.Common.{◌≡◌, drop}
-use Rattle.share_sums.specs.Sums.{first_amount}
-use Rattle.share_sums.proofs.sum.amount_of.Given as goal
-
-abbrev pub invariant-loop-row : goal.invariant-loop-row
-invariant-loop-row l = first_amount l.name (drop l.row-index l.rows) ≡ first_amount l.name l.rows

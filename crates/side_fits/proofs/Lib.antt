@@ -1,4 +1,0 @@
-pub mod Weights
-pub mod Steps
-pub mod Receiving
-pub mod Numbering

@@ -1,6 +1,0 @@
--- A configuration that was read, as its line says it.
-use Rattle.step_lines.specs.Configs.{Configured}
-use Rattle.agent_sides.specs.declared.config.Config.{Config}
-
-abbrev pub configured_by : Config → Configured
-configured_by c = record { agents = c.agents; weights = c.weights }

@@ -1,0 +1,11 @@
+pub mod Answers
+pub mod Members
+pub mod Totals
+pub mod Lines
+pub mod Configs
+pub mod Configurations
+pub mod Words
+pub mod EntriesLines
+pub mod Ends
+pub mod Agents
+pub mod Files

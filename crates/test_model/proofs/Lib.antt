@@ -1,0 +1,3 @@
+mod Gapless
+mod Issuing
+mod Taking

@@ -1,0 +1,70 @@
+-- An agent returns with a larger total: its Report takes that into the books, and not before.
+use Rattle.std.specs.Prelude.{ℕ, List, [], ◌∷◌, Some, None}
+use Rattle.messages.specs.declared.mail.MasterMail.TheVariants.{Hello}
+use Rattle.messages.specs.declared.mail.AgentMail.TheVariants.{Report}
+use Rattle.messages.specs.declared.record.RecordParts.{RecordParts}
+use Rattle.quantity.specs.declared.rows.Row.{Row}
+use Rattle.cluster_model.specs.Events.{Subscribed, Offers, Rescind}
+use Rattle.messages.specs.declared.steps.step.Step.{Step}
+use Rattle.messages.specs.declared.steps.step.Step.TheVariants.{Send, Deliver, Allocate, Prepare, Commit}
+use Rattle.messages.specs.declared.steps.step.StepCause.TheVariants.{Start as ByStart, Mail as ByMail}
+use Rattle.messages.specs.declared.steps.verdict.Verdict.TheVariants.{Ok as Fine, MasterRefused}
+use Rattle.messages.specs.declared.steps.verdict.Sent.TheVariants.{Call as CallSent}
+use Rattle.test_model.specs.Short.{id, row, made, event_on, to_agent, from_agent, durable, line, ending, Expected}
+use Rattle.messages.specs.declared.call.Call.TheVariants as calls
+use Rattle.messages.specs.declared.refusal.MasterRefusal.TheVariants as masters
+
+abbrev pub n_a1 : List ℕ
+n_a1 = 97 ∷ 49 ∷ []
+
+abbrev pub n_cpus : List ℕ
+n_cpus = 99 ∷ 112 ∷ 117 ∷ 115 ∷ []
+
+abbrev pub n_mem : List ℕ
+n_mem = 109 ∷ 101 ∷ 109 ∷ []
+
+abbrev pub n_u42 : List ℕ
+n_u42 = 42 ∷ []
+
+abbrev pub less : List Row
+less = row n_cpus 4 ∷ row n_mem 4096 ∷ []
+
+abbrev pub more : List Row
+more = row n_cpus 8 ∷ row n_mem 8192 ∷ []
+
+abbrev pub records : List RecordParts
+records = durable n_a1 less 0 0 [] ∷ []
+
+abbrev pub steps : List Step
+steps = Prepare n_a1 (ByMail 1) ∷
+    Commit n_a1 ∷
+    Deliver 2 ∷
+    Send None (calls.Subscribe None n_u42) ∷
+    Deliver 3 ∷
+    Allocate ∷
+    Prepare n_a1 (ByStart (Some more)) ∷
+    Allocate ∷
+    Commit n_a1 ∷
+    Allocate ∷
+    Deliver 4 ∷
+    Allocate ∷
+    Deliver 2 ∷ []
+
+abbrev pub expected : Expected
+expected = record {
+  lines = line Fine [] [] (to_agent n_a1 (Hello 1 0) ∷ []) None ∷
+      line Fine [] [] [] None ∷
+      line Fine [] [] (from_agent n_a1 (Report 1 1 [] less) ∷ []) None ∷
+      line Fine [] [] [] None ∷
+      line Fine [] [] (CallSent ∷ []) None ∷
+      line Fine (event_on (id 1 1) (Subscribed (id 1 1)) ∷ []) [] [] None ∷
+      line Fine (event_on (id 1 1) (Offers (made n_a1 (id 1 1) (id 1 1) less ∷ [])) ∷ []) [] [] None ∷
+      line Fine [] [] [] None ∷
+      line Fine [] [] [] None ∷
+      line Fine [] [] (from_agent n_a1 (Report 2 1 [] more) ∷ []) None ∷
+      line Fine [] [] [] None ∷
+      line Fine (event_on (id 1 1) (Rescind (id 1 1)) ∷ []) [] [] None ∷
+      line Fine (event_on (id 1 1) (Offers (made n_a1 (id 1 2) (id 1 1) more ∷ [])) ∷ []) [] [] None ∷
+      line (MasterRefused masters.OldSession) [] [] (to_agent n_a1 (Hello 1 1) ∷ []) None ∷ [];
+  ends = ending n_a1 more [] ∷ [];
+}

@@ -1,0 +1,73 @@
+-- A launch that was on its way when the master restarted is refused by its agent.
+use Rattle.std.specs.Prelude.{ℕ, List, [], ◌∷◌, Some, None}
+use Rattle.messages.specs.declared.mail.Command.TheVariants.{Launch}
+use Rattle.messages.specs.declared.mail.MasterMail.TheVariants.{Hello, Issued}
+use Rattle.messages.specs.declared.mail.AgentMail.TheVariants.{Report}
+use Rattle.messages.specs.declared.record.RecordParts.{RecordParts}
+use Rattle.cluster_model.specs.Events.{Subscribed, Offers}
+use Rattle.messages.specs.declared.steps.step.Step.{Step}
+use Rattle.messages.specs.declared.steps.step.Step.TheVariants.{Send, Deliver, Allocate, Prepare, Commit, StopMaster}
+use Rattle.messages.specs.declared.steps.step.StepCause.TheVariants.{Mail as ByMail}
+use Rattle.messages.specs.declared.steps.verdict.Verdict.TheVariants.{Ok as Fine, AgentRefused}
+use Rattle.messages.specs.declared.steps.verdict.Sent.TheVariants.{Call as CallSent}
+use Rattle.test_model.specs.Short.{id, row, job, made, wanted, event_on, to_agent, from_agent, durable, line, ending, Expected}
+use Rattle.messages.specs.declared.call.Call.TheVariants as calls
+use Rattle.messages.specs.declared.refusal.AgentRefusal.TheVariants as refusals
+
+abbrev pub n_a1 : List ℕ
+n_a1 = 97 ∷ 49 ∷ []
+
+abbrev pub n_cpus : List ℕ
+n_cpus = 99 ∷ 112 ∷ 117 ∷ 115 ∷ []
+
+abbrev pub n_mem : List ℕ
+n_mem = 109 ∷ 101 ∷ 109 ∷ []
+
+abbrev pub n_t1 : List ℕ
+n_t1 = 116 ∷ 49 ∷ []
+
+abbrev pub n_u42 : List ℕ
+n_u42 = 42 ∷ []
+
+abbrev pub records : List RecordParts
+records = durable n_a1 (row n_cpus 4 ∷ row n_mem 4096 ∷ []) 0 0 [] ∷ []
+
+abbrev pub steps : List Step
+steps = Prepare n_a1 (ByMail 1) ∷
+    Commit n_a1 ∷
+    Deliver 2 ∷
+    Send None (calls.Subscribe None n_u42) ∷
+    Deliver 3 ∷
+    Allocate ∷
+    Send (Some (id 1 1)) (calls.Accept (id 1 1) ((id 1 1) ∷ []) (wanted n_t1 n_a1 (row n_cpus 2 ∷ row n_mem 1024 ∷ []) ∷ []) 5) ∷
+    Deliver 4 ∷
+    StopMaster ∷
+    Prepare n_a1 (ByMail 6) ∷
+    Commit n_a1 ∷
+    Deliver 7 ∷
+    Send None (calls.Subscribe (Some (id 1 1)) n_u42) ∷
+    Deliver 8 ∷
+    Allocate ∷
+    Prepare n_a1 (ByMail 5) ∷ []
+
+abbrev pub expected : Expected
+expected = record {
+  lines = line Fine [] [] (to_agent n_a1 (Hello 1 0) ∷ []) None ∷
+      line Fine [] [] [] None ∷
+      line Fine [] [] (from_agent n_a1 (Report 1 1 [] (row n_cpus 4 ∷ row n_mem 4096 ∷ [])) ∷ []) None ∷
+      line Fine [] [] [] None ∷
+      line Fine [] [] (CallSent ∷ []) None ∷
+      line Fine (event_on (id 1 1) (Subscribed (id 1 1)) ∷ []) [] [] None ∷
+      line Fine (event_on (id 1 1) (Offers (made n_a1 (id 1 1) (id 1 1) (row n_cpus 4 ∷ row n_mem 4096 ∷ []) ∷ [])) ∷ []) [] [] None ∷
+      line Fine [] [] (CallSent ∷ []) None ∷
+      line Fine [] [] (to_agent n_a1 (Issued 1 1 (Launch (job (id 1 1) (id 1 1) n_t1 (row n_cpus 2 ∷ row n_mem 1024 ∷ [])) ((id 1 1) ∷ []))) ∷ []) None ∷
+      line Fine [] [] (to_agent n_a1 (Hello 2 0) ∷ []) None ∷
+      line Fine [] [] [] None ∷
+      line Fine [] [] (from_agent n_a1 (Report 2 2 [] (row n_cpus 4 ∷ row n_mem 4096 ∷ [])) ∷ []) None ∷
+      line Fine [] [] [] None ∷
+      line Fine [] [] (CallSent ∷ []) None ∷
+      line Fine (event_on (id 2 1) (Subscribed (id 1 1)) ∷ []) [] [] None ∷
+      line Fine (event_on (id 2 1) (Offers (made n_a1 (id 2 1) (id 1 1) (row n_cpus 4 ∷ row n_mem 4096 ∷ []) ∷ [])) ∷ []) [] [] None ∷
+      line (AgentRefused refusals.OldSession) [] [] [] None ∷ [];
+  ends = ending n_a1 (row n_cpus 4 ∷ row n_mem 4096 ∷ []) [] ∷ [];
+}
