@@ -1,5 +1,5 @@
 #!/usr/bin/env python3
-"""Runs worked histories by the built `case_tables` with each of its allocations refused in turn, and compares how each run ends.
+"""Runs worked histories by the built `test_tables` with each of its allocations refused in turn, and compares how each run ends.
 
 A step that is refused memory is marked there, the part that it made fall comes up again by a stop, and the history goes on. So the table at its end must be that of the
 same history without the marked step, as the replayer has it: a step that was refused is left out, one that made its part fall is replaced by the stop that brought the part
@@ -7,7 +7,7 @@ up again, and a stop of the master in which the new one fell counts as taken bef
 one more. Where memory is refused to anything but a step, as to read a line, a run prints nothing, and ends with the status 3 and a message that tells of memory.
 
 Of both kinds of marks, of agents and of masters that fell there must be some. A C compiler is asked for. It prints what it checked, and ends within two minutes. PROGRAM=..
-and REPLAY=.. name other programs than crates/case_tables/out/case_tables and crates/mesos_node/out/mesos_node.
+and REPLAY=.. name other programs than crates/test_tables/out/test_tables and crates/mesos_node/out/mesos_node.
 """
 
 import collections
@@ -20,7 +20,7 @@ import tempfile
 
 HERE = os.path.dirname(os.path.abspath(__file__))
 HISTORIES = f"{HERE}/../histories"
-PROGRAM = os.environ.get("PROGRAM", f"{HERE}/../../crates/case_tables/out/case_tables")
+PROGRAM = os.environ.get("PROGRAM", f"{HERE}/../../crates/test_tables/out/test_tables")
 REPLAY = os.environ.get("REPLAY", f"{HERE}/../../crates/mesos_node/out/mesos_node")
 NAMES = ("first_offer", "what_is_left", "a_launch", "stopped_after_its_save", "stopped_before_its_save", "torn_down", "a_task_over_two_runs")
 STOP_MASTER = b'{"step":"stop_master"}'

@@ -1,9 +1,9 @@
 #!/usr/bin/env python3
-"""Runs the built `case_tables` over the short lines of texts of its table with one of its allocations refused, for many allocations in turn.
+"""Runs the built `test_tables` over the short lines of texts of its table with one of its allocations refused, for many allocations in turn.
 
 At most one line may then differ from the one that is due, and that line must tell of memory; or the program ends there, with status 3 and a message
 that tells of memory. A C compiler is asked for. It prints what it checked, and ends within a minute. PROGRAM=.. names another program than
-crates/case_tables/out/case_tables; MOST=.. how many allocations are refused, evenly spread (1000).
+crates/test_tables/out/test_tables; MOST=.. how many allocations are refused, evenly spread (1000).
 """
 
 import itertools
@@ -13,8 +13,8 @@ import sys
 import tempfile
 
 HERE = os.path.dirname(os.path.abspath(__file__))
-CRATE = f"{HERE}/../../crates/case_tables"
-PROGRAM = os.environ.get("PROGRAM", f"{CRATE}/out/case_tables")
+CRATE = f"{HERE}/../../crates/test_tables"
+PROGRAM = os.environ.get("PROGRAM", f"{CRATE}/out/test_tables")
 MOST = int(os.environ.get("MOST", "1000"))
 
 
@@ -62,7 +62,7 @@ def main():
             total = int(counted.read())
         refused = range(1, total + 1, max(1, total // MOST))
         ended = sum(check(due, run(shim, given, n)) for n in refused)
-    print(f"case_tables: {len(refused)} of {total} allocations refused in turn, {ended} runs ended early for it")
+    print(f"test_tables: {len(refused)} of {total} allocations refused in turn, {ended} runs ended early for it")
 
 
 if __name__ == "__main__":

@@ -4,7 +4,8 @@
 The first server is held for some seconds between the load of its folder and its first thread: by strace where it may trace, and else by a library of the test's own,
 for which a C compiler is asked. Meanwhile a second one starts on the folder, and has to end with K1 and a line that says that a server uses it. The first goes on, and
 offers all that its agents own, once. A server that is killed while it is held leaves the folder to the next, as does one that is killed while it serves: what a
-task holds is then not offered. Each store is locked, so sqlite3 can't open one either.
+task holds is then not offered. Each store is locked, so sqlite3 can't open one either. An agent's store that another program writes between its load and the
+agent's first step isn't saved over: the server ends with K2, or goes on without that agent.
 """
 import os
 import shutil
@@ -52,13 +53,13 @@ def is_gone(pid):
 class Held:
     """A server that is held between the load of its folder and its first thread."""
 
-    def __init__(self, folder):
+    def __init__(self, folder, *options):
         self.port, env, words = free_port(), dict(os.environ), strace_words()
         if words is None:
             words, library = [], os.path.join(folder.path, "hold.so")
             subprocess.run(["cc", "-x", "c", "-shared", "-fPIC", "-o", library, "-", "-ldl"], input=SHIM % HELD, text=True, check=True)
             env["LD_PRELOAD"] = library
-        serve = [PROGRAM, "serve", "--port", str(self.port), "--agents", folder.agents, "--state", folder.state]
+        serve = [PROGRAM, "serve", "--port", str(self.port), "--agents", folder.agents, "--state", folder.state, *options]
         self.process = subprocess.Popen([*words, *serve], env=env, stdin=subprocess.DEVNULL, stdout=subprocess.DEVNULL, stderr=subprocess.PIPE)
         self.said = self.process.stderr.readline().decode().strip()
         check("serves at" in self.said, f"the server that is held says: {self.said}")
@@ -141,11 +142,35 @@ def try_after(folder, framework):
             check(not again.next("OFFERS", seconds=3), "nothing more is offered")
 
 
+def change(folder, agent):
+    """Another program writes an agent's store, which keeps another record then."""
+    with closing(sqlite3.connect(os.path.join(folder.state, f"agent-{agent}.db"), timeout=0)) as it:
+        changed = it.execute("UPDATE agent_head SET session = session + 1").rowcount
+        it.commit()
+    check(changed == 1, f"{agent}'s store keeps a record")
+
+
+def try_changed(folder):
+    """A store that another program writes while a server is held isn't saved over."""
+    with Held(folder) as held:
+        change(folder, "a1")
+        status = held.process.wait(timeout=HELD + 10)
+        said = held.process.stderr.read().decode().splitlines()
+        check(status == 3 and "K2 Damaged: the record of a1" in said, f"it ends with {status}: {said}")
+    with Held(folder, "--keep-serving") as held:
+        change(folder, "a1")
+        said = held.process.stderr.readline().decode().strip()
+        check(said == "K2 Damaged: the record of a1, which is down from now on", f"it says {said}")
+        framework = Framework(held.port)
+        check(list(offered(framework, 1)) == ["a2"], "the other agent is offered")
+
+
 def main():
     with Folder(AGENTS) as folder:
         try_after(folder, try_held(folder))
+        try_changed(folder)
         how = "strace" if strace_words() else "a library of the test's own"
-        print(f"three servers ended at once with K1, while another on their folder was held by {how} before its first thread, or served; nothing was offered twice")
+        print(f"three servers ended at once with K1, while another on their folder was held by {how} before its first thread, or served; nothing was offered twice, and a store that had changed meanwhile wasn't saved over")
 
 
 if __name__ == "__main__":
