@@ -22,6 +22,7 @@ jq -nc --arg id "$id" '{type: "SUBSCRIBE", subscribe: {framework_info: {user: "m
 reader=$!
 exec 3< "$room/events"
 launched=0 finished=0
+declare -A told
 while IFS= read -r size <&3; do # each event is its size in digits, a line feed, and so many bytes of JSON
   event=$(head -c "$size" <&3)
   case $(jq -r .type <<< "$event") in
@@ -44,9 +45,13 @@ while IFS= read -r size <&3; do # each event is its size in digits, a line feed,
     ;;
   UPDATE)
     status=$(jq -c .update.status <<< "$event")
-    jq -r '.task_id.value + " " + .state' <<< "$status"
     if [ "$(jq 'has("uuid")' <<< "$status")" = true ]; then call ACKNOWLEDGE "{acknowledge: ($status | {agent_id, task_id, uuid})}"; fi
-    if [ "$(jq -r .state <<< "$status")" = TASK_FINISHED ]; then finished=$((finished + 1)); fi
+    read -r name state < <(jq -r '.task_id.value + " " + .state' <<< "$status")
+    if [ "${told[$name]-}" != "$state" ]; then # an update is sent again until it is acknowledged
+      told[$name]=$state
+      echo "$name $state"
+      if [ "$state" = TASK_FINISHED ]; then finished=$((finished + 1)); fi
+    fi
     if [ "$finished" = "$tasks" ]; then call TEARDOWN; echo "$tasks tasks finished"; exit; fi
     ;;
   esac
