@@ -10,7 +10,7 @@ ghost use Rattle.keep_store.specs.Kept.{StillKeeps, first_kept, nothing, second_
 ghost use Rattle.keep_tables.specs.Tables.{HasKnownTables, IsKnown, IsLone, IsOurs, IsReady, first_schema, second_schema, keeper_schema, no_schema};
 
 use crate::adding::add_tables;
-use crate::saves::fault::fault_of;
+use crate::saves::fault_of;
 use keep_tables::statements::{read_head_ids, read_record_ids, read_run_ids};
 use keep_tables::{KeepFault, is_ours, number_at};
 use sqlite::{Alter, Connection, Error, Row};

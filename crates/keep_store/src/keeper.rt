@@ -13,12 +13,11 @@ ghost use Rattle.keep_store.specs.SavesKept.{kept_in, with_record};
 ghost use Rattle.keep_store.specs.Kept.{StillKeeps, first_kept, nothing, second_kept, with_run, HoldsText, IsDamaged, IsLoaded, HoldsRun, HoldsNoRun, run_in, shown_body, shown_last};
 ghost use Rattle.keep_store.specs.Stops.{LeavesEither, Stands};
 ghost use Rattle.keep_tables.specs.Tables.{HasKnownTables, IsKnown, IsReady, Stays, first_schema, second_schema, no_schema};
-ghost use Rattle.keep_tables.specs.declared.rows.fault.KeepFault.TheVariants as faults;
+ghost use Rattle.keep_tables.specs.declared.rows.KeepFault.TheVariants as faults;
 
 use crate::check::prepare;
 use crate::reading::record_shown;
-use crate::saves::fault::fault_of;
-use crate::saves::{head_seen, run_behind, save_record};
+use crate::saves::{fault_of, head_seen, run_behind, save_record};
 use crate::seen::seen_in;
 use agent_core::Record;
 use keep_tables::statements::read_lasts;

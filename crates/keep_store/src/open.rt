@@ -13,7 +13,7 @@ ghost use Rattle.keep_tables.specs.Tables.{IsKnown, IsReady, fault_for, first_sc
 
 use crate::files::connect;
 use crate::keeper::Keeper;
-use crate::saves::fault::fault_of;
+use crate::saves::fault_of;
 use keep_tables::KeepFault;
 use sqlite::{Alter, Connection, Error, FileFrom, FileStore, Start, Unknown};
 use sqlite_disk::Disk;

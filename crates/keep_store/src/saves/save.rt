@@ -14,7 +14,7 @@ ghost use Rattle.keep_tables.specs.Tables.{IsReady, IsCommitted, Stays, head_row
 ghost use Rattle.keep_tables.specs.Totals.{AreNamed};
 ghost use Rattle.quantity.specs.Rows.{AreRows};
 
-use crate::saves::fault::fault_of;
+use crate::saves::fault_of;
 use crate::saves::seen::write_tasks;
 use keep_tables::changes::{clear_heads, clear_records, put_head};
 use keep_tables::{KeepFault, write_total};

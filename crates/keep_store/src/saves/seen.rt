@@ -9,7 +9,7 @@ ghost use Rattle.agent_core.specs.Records.{keys_rise};
 ghost use Rattle.keep_store.specs.SavesKept.{Adds, ArePut, AreSeen, HasNoTask, HasTasks, IsPut};
 ghost use Rattle.keep_tables.specs.Tables.{IsWriting, WritesOn, place_of, WritesIfOk};
 
-use crate::saves::fault::fault_of;
+use crate::saves::fault_of;
 use event_json::task_text;
 use keep_tables::changes::{clear_tasks, cut_task, place_of, put_task, read_places};
 use keep_tables::{KeepFault, corrupt};

@@ -6,8 +6,7 @@ ghost use Rattle.cluster_model.specs.Mails.{after_heartbeat, is_due};
 ghost use Rattle.master_state.specs.Frameworks.{are_ordered, changed, ids_of, revived, roles_of, suppressed, with_filter, without_stream};
 ghost use Rattle.master_state.specs.OpenStreams.{streams_of};
 
-use crate::registry::filters;
-use crate::registry::look::{is_at, place_in, place_with};
+use crate::registry::{filters, is_at, place_in, place_with};
 use messages::Framework;
 use names_core::{AgentName, FrameworkId};
 use quantity::Resources;

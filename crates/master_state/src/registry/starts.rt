@@ -4,7 +4,7 @@ ghost use Rattle.std.specs.Prelude.{◌≡◌, ◌<◌, [], Some, List, take, If
 ghost use Rattle.messages.specs.declared.framework.Framework as model;
 ghost use Rattle.master_state.specs.Starts.{AreStarts, IsStart, NoneEligible, all_cut, all_cut_on, cut_on, cut_to};
 
-use crate::registry::filters::refused_until;
+use crate::registry::refused_until;
 use messages::Framework;
 use names_core::AgentName;
 use quantity::Resources;
