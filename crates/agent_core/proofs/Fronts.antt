@@ -24,7 +24,7 @@ use Rattle.cluster_model.specs.Agents.{Agent, Draft, acknowledged, applies, exec
 use Rattle.cluster_model.specs.Ids.{last_number}
 use Rattle.agent_core.specs.Records.{none_is_done}
 use Rattle.agent_core.specs.Spared.{command_spares, mail_spares, spares}
-use Rattle.agent_core.proofs.Places.{not_both_ways}
+use Rattle.names_core.proofs.IdOrder.{not_after}
 
 -- a change of the tasks of a key alone
 stated_front : (key : Numbered) (state : TaskState) (n : ℕ) (ts : List RecordedTask) → list_all (λ t. not (is_task key t)) (take n ts) ≡ true → take n ts ≡ take n (map (stated key state) ts)
@@ -64,7 +64,7 @@ put_front zero new ts within h = refl
 put_front (suc n) new [] within h = absurd (omega arith)
 put_front (suc n) new (t ∷ ts) within h =
     let both = and_parts (before t.job.key new.job.key) (list_all (λ u. before u.job.key new.job.key) (take n ts)) h in
-    let later : before new.job.key t.job.key ≡ false = not_both_ways t.job.key new.job.key both.0 in
+    let later : before new.job.key t.job.key ≡ false = not_after t.job.key new.job.key both.0 in
     rw (both.0, later) (ap (λ (us : List RecordedTask). t ∷ us) (put_front n new ts (omega arith) both.1))
 
 command_front : (n : ℕ) (command : Command) (ts : List RecordedTask) → none_is_done ts ≡ true → n ≤ length ts → list_all (command_spares command) (take n ts) ≡ true → take n ts ≡ take n (tasks_after command ts)

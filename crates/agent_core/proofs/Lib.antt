@@ -2,5 +2,6 @@ mod Fronts
 pub mod Places
 pub mod Recorded
 mod Runs
-pub mod Taking
+pub mod Shared
 mod States
+pub mod Taking

@@ -8,15 +8,7 @@ use Rattle.names_core.specs.Ids.{Numbered, before, same}
 use Rattle.messages.specs.declared.record.RecordedTask.{RecordedTask}
 use Rattle.cluster_model.specs.Agents.{is_task, put_task}
 use Rattle.agent_core.specs.Records.{is_behind, keys_rise, rise_behind}
-
-pub before_both : (a b c : Numbered) → before a b ≡ true → before b c ≡ true → before a c ≡ true
-before_both a b c h k = grind (arith, nat_tests)
-
-pub not_both_ways : (a b : Numbered) → before a b ≡ true → before b a ≡ false
-not_both_ways a b h = grind (arith, nat_tests)
-
-else_after : (a b : Numbered) → before a b ≡ false → same a b ≡ false → before b a ≡ true
-else_after a b h k = grind (arith, nat_tests)
+use Rattle.names_core.proofs.IdOrder.{before_both, else_after, not_after}
 
 -- tests that all pass, or none
 
@@ -30,7 +22,7 @@ none_before : (key : Numbered) (ts : List RecordedTask) → list_all (λ t. befo
 none_before key [] h = refl
 none_before key (t ∷ ts) h =
     let both = and_parts (before key t.job.key) (list_all (λ u. before key u.job.key) ts) h in
-    rw (not_both_ways key t.job.key both.0) (none_before key ts both.1)
+    rw (not_after key t.job.key both.0) (none_before key ts both.1)
 
 -- behind a key that others are behind
 all_behind : (key last : Numbered) (ts : List RecordedTask) → before key last ≡ true → rise_behind (Some last) ts ≡ true → list_all (λ t. before key t.job.key) ts ≡ true
@@ -85,7 +77,7 @@ parted key last (t ∷ ts) h k = by (before t.job.key key) refl (parted key (Som
 
     by : (b : Bool) → before t.job.key key ≡ b → (take (count key ts) ts ≡ filter (λ u. before u.job.key key) ts) × (drop (count key ts) ts ≡ filter (λ u. before key u.job.key) ts) →
         (take (cond b (suc (count key ts)) 0) (t ∷ ts) ≡ cond b (t ∷ filter (λ u. before u.job.key key) ts) (filter (λ u. before u.job.key key) ts)) × (drop (cond b (suc (count key ts)) 0) (t ∷ ts) ≡ cond (before key t.job.key) (t ∷ filter (λ u. before key u.job.key) ts) (filter (λ u. before key u.job.key) ts))
-    by true e ih = passed (before key t.job.key) refl (not_both_ways t.job.key key e) ih
+    by true e ih = passed (before key t.job.key) refl (not_after t.job.key key e) ih
     by false e ih = let after : before key t.job.key ≡ true = else_after t.job.key key e others.0 in stopped (before key t.job.key) refl after (all_behind key t.job.key ts after rising.1)
 
 -- a new task between them is in its place

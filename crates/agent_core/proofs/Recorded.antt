@@ -23,8 +23,9 @@ use Rattle.messages.specs.declared.record.RecordedTask.{RecordedTask}
 use Rattle.messages.specs.declared.task.Job.{Job}
 use Rattle.cluster_model.specs.Agents.{Agent, acknowledged, has_ended, has_room, is_task, launched_task, live_tasks, put_task, stated, task_rows, tasks_after, with_session}
 use Rattle.agent_core.specs.Room.{Leaves}
-use Rattle.agent_core.proofs.Places.{before_both, not_both_ways, placed}
+use Rattle.agent_core.proofs.Places.{placed}
 use Rattle.agent_core.specs.Records.{HasRoom, has_begun, is_behind, is_record, keys_rise, none_is_done, rise_behind, with_other_tasks}
+use Rattle.names_core.proofs.IdOrder.{before_both, not_after}
 
 -- launch keys
 
@@ -144,7 +145,7 @@ held_apart name key (t ∷ ts) laws = by (before t.job.key key) (before key t.jo
     with_none false e ih = rw (more ts, e) (omega (arith, ih))
 
     by : (b c : Bool) → before t.job.key key ≡ b → before key t.job.key ≡ c → held name front + held name rest ≤ held name ts → held name (filter (λ u. before u.job.key key) (t ∷ ts)) + held name (filter (λ u. before key u.job.key) (t ∷ ts)) ≤ held name (t ∷ ts)
-    by true true e d ih = absurd (let no : before key t.job.key ≡ false = not_both_ways t.job.key key e in cc)
+    by true true e d ih = absurd (let no : before key t.job.key ≡ false = not_after t.job.key key e in cc)
     by true false e d ih = rw (e, d) (with_first (has_ended t) refl ih)
     by false true e d ih = rw (e, d) (with_last (has_ended t) refl ih)
     by false false e d ih = rw (e, d) (with_none (has_ended t) refl ih)

@@ -9,6 +9,7 @@ use Rattle.std.proofs.Math.Seq.{take-append_seam, drop-append_seam}
 use Rattle.call_json.specs.Cuts.{is_token_byte, takes_next, IsString, IsToken, IsPiece, Cuts}
 use Rattle.call_json.specs.Trim.{string_len, piece_len, first_pieces, pieces_of}
 use Rattle.call_json.proofs.Trimming.{piece_some, enough}
+use Rattle.std.proofs.lemmas.Bool.{and_parts}
 
 -- ---- strings
 
@@ -59,15 +60,11 @@ quote_by false b e h = refl
 no_quote : (b : ℕ) → is_token_byte b ≡ true → (b == 34) ≡ false
 no_quote b h = quote_by (b == 34) b refl h
 
-both : (p q : Bool) → (p && q) ≡ true → (p ≡ true) × (q ≡ true)
-both true q h = (refl, h)
-both false q h = absurd (false≢true h)
-
 run : (bs r : List ℕ) → list_all is_token_byte bs ≡ true → is_token_byte (get_or r 0 0) ≡ false → prefix_len is_token_byte (bs ++ r) ≡ length bs
 run [] [] h f = refl
 run [] (c ∷ cs) h f = rw f refl
 run (b ∷ bs) r h f =
-    let p = both (is_token_byte b) (list_all is_token_byte bs) h in
+    let p = and_parts (is_token_byte b) (list_all is_token_byte bs) h in
     let k = run bs r p.1 f in
     rw p.0 (omega (arith, k))
 
@@ -76,7 +73,7 @@ run (b ∷ bs) r h f =
 token_length : (piece rest : List ℕ) → IsToken piece rest → length piece ≡ piece_len (piece ++ rest)
 token_length [] rest (some, all, stops) = absurd (omega arith)
 token_length (b ∷ bs) rest (some, all, stops) =
-    let p = both (is_token_byte b) (list_all is_token_byte bs) all in
+    let p = and_parts (is_token_byte b) (list_all is_token_byte bs) all in
     let k = run bs rest p.1 stops in
     rw (no_quote b p.0, p.0, length-prefix_len is_token_byte (bs ++ rest)) (omega (arith, k))
 

@@ -20,6 +20,7 @@ use Rattle.call_json.specs.Values.{at, behind, HasText, IsRead, IsReadOrNot}
 use Rattle.call_json.specs.Members.{IsEither, IsOneRole, IsSubscribe}
 use Rattle.call_json.proofs.Binds.{bind_ok, bind_is, ok_one}
 use Rattle.call_json.proofs.ReadValues.{text_is, text_at, list_is, no_list, lacks_list, required_is, required_at, optional_is, optional_at, known_is}
+use Rattle.std.proofs.lemmas.Bool.{and_parts}
 
 -- ---- roles
 
@@ -56,13 +57,9 @@ roles_at o (Some role) (d, list, (text, there, reads)) =
 
 -- ---- ids
 
-and_true : (a b : Bool) → (a && b) ≡ true → (a ≡ true) × (b ≡ true)
-and_true true b is = (refl, is)
-and_true false b is = absurd cc
-
 pub same_id : (i j : Numbered) → ((i.run == j.run) && (i.n == j.n)) ≡ true → i ≡ j
 same_id i j is =
-    let parts = and_true (i.run == j.run) (i.n == j.n) is in
+    let parts = and_parts (i.run == j.run) (i.n == j.n) is in
     let run : i.run ≡ j.run = grind (arith, nat_tests, parts.0) in
     let n : i.n ≡ j.n = grind (arith, nat_tests, parts.1) in
     ap (λ (r : ℕ). record { run = r; n = i.n }) run ∙ ap (λ (m : ℕ). record { run = j.run; n = m }) n

@@ -12,19 +12,7 @@ use Rattle.cluster_laws.specs.Items.{names_of}
 use Rattle.cluster_laws.specs.Parts.{Part, part_of, parts_of}
 use Rattle.cluster_agents.specs.Agents.{KeptAgent, place_in}
 use Rattle.cluster_agents.specs.Moves.{kept_agents, kept_part}
-
-pub bytes_same : (xs ys : List ℕ) → bytes_eq xs ys ≡ true → xs ≡ ys
-bytes_same xs ys e = (bytes_decides xs ys).0 e
-
-pub bytes_refl : (xs : List ℕ) → bytes_eq xs xs ≡ true
-bytes_refl xs = (bytes_decides xs xs).1 refl
-
-pub bytes_differ : (xs ys : List ℕ) → xs ≢ ys → bytes_eq xs ys ≡ false
-bytes_differ xs ys n = by (bytes_eq xs ys) refl
-  where
-    by : (t : Bool) → bytes_eq xs ys ≡ t → bytes_eq xs ys ≡ false
-    by true e = absurd (n (bytes_same xs ys e))
-    by false e = e
+use Rattle.names_core.proofs.Lists.{bytes_differ, bytes_eq-is, bytes_eq-refl}
 
 -- ---- look-ups by name
 
@@ -56,7 +44,7 @@ stands fallen name (y ∷ cs) i k e = by (has_name name y) refl e (λ f. stands 
     by true b f rest =
         let same : Some i ≡ Some k = rw b at f in
         let at_once : i ≡ k = cc in
-        record { place = 0; x = y; is = omega (arith, at_once); there = refl; call_effect = bytes_same y.side.name name b; first = rw b refl }
+        record { place = 0; x = y; is = omega (arith, at_once); there = refl; call_effect = bytes_eq-is y.side.name name b; first = rw b refl }
     by false b f rest = behind name y cs i k b (rest (rw b at f))
 
 stands_nowhere : (fallen : List (List ℕ)) (name : List ℕ) (cs : List Channel) (i : ℕ) → position_from (named name) i (kept_in fallen cs) ≡ None → find (has_name name) cs ≡ None
@@ -96,10 +84,10 @@ kept_at f (y ∷ cs) (suc place) x a e h = kept_at f cs place x a e h
 -- ---- who is down
 
 pub up_then : (n : List ℕ) (fs : List (List ℕ)) → list_any (bytes_eq n) (filter (λ a. not (bytes_eq a n)) fs) ≡ false
-up_then n fs = any-filter_same (bytes_eq n) (λ a. not (bytes_eq a n)) false (λ k e. ap not (ap (λ m. bytes_eq m n) (sym (bytes_same n k e)) ∙ bytes_refl n)) fs
+up_then n fs = any-filter_same (bytes_eq n) (λ a. not (bytes_eq a n)) false (λ k e. ap not (ap (λ m. bytes_eq m n) (sym (bytes_eq-is n k e)) ∙ bytes_eq-refl n)) fs
 
 pub as_before : (agent n : List ℕ) (fs : List (List ℕ)) → n ≢ agent → list_any (bytes_eq n) (filter (λ a. not (bytes_eq a agent)) fs) ≡ list_any (bytes_eq n) fs
-as_before agent n fs differ = any-filter_same (bytes_eq n) (λ a. not (bytes_eq a agent)) true (λ k e. ap not (ap (λ m. bytes_eq m agent) (sym (bytes_same n k e)) ∙ bytes_differ n agent differ)) fs
+as_before agent n fs differ = any-filter_same (bytes_eq n) (λ a. not (bytes_eq a agent)) true (λ k e. ap not (ap (λ m. bytes_eq m agent) (sym (bytes_eq-is n k e)) ∙ bytes_differ n agent differ)) fs
 
 abbrev pub SameBut : List ℕ → List (List ℕ) → List (List ℕ) → Type 0
 SameBut agent f g = (n : List ℕ) → n ≢ agent → list_any (bytes_eq n) g ≡ list_any (bytes_eq n) f
@@ -108,7 +96,7 @@ pub falls_alone : (agent : List ℕ) (fs : List (List ℕ)) → SameBut agent fs
 falls_alone agent fs n differ = rw (bytes_differ n agent differ) (as_before agent n fs differ)
 
 pub is_down_then : (agent : List ℕ) (fs : List (List ℕ)) → list_any (bytes_eq agent) (agent ∷ fs) ≡ true
-is_down_then agent fs = rw (bytes_refl agent) refl
+is_down_then agent fs = rw (bytes_eq-refl agent) refl
 
 -- ---- one agent changes
 

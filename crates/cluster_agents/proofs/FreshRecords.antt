@@ -10,34 +10,28 @@ use Rattle.master_agents.specs.Configs.{are_ordered, names_of}
 use Rattle.master_agents.specs.declared.config.ConfiguredAgent.{ConfiguredAgent}
 use Rattle.cluster_model.specs.Ids.{bytes_before}
 use Rattle.cluster_model.specs.Openings.{GoodOpening, KeysOnce, NamesOnce, RecordFits, recorded_jobs, recorded_offers}
-use Rattle.cluster_laws.proofs.Lists.{both_true}
 use Rattle.cluster_laws.specs.Premises.{AreRecorded}
 use Rattle.cluster_agents.specs.Fresh.{fresh_records}
 use Rattle.cluster_agents.specs.Records.{StandInOrder}
 use Rattle.quantity.specs.Rows.{amount}
+use Rattle.names_core.proofs.IdOrder.{not_itself}
+use Rattle.std.proofs.lemmas.Bool.{and_parts}
 
 -- ---- names
 
-not_before_itself : (xs : List ℕ) → bytes_before xs xs ≡ false
-not_before_itself [] = refl
-not_before_itself (x ∷ xs) =
-    let not_less : nat_lt x x ≡ false = grind (arith, nat_tests) in
-    let same : (x == x) ≡ true = grind (arith, nat_tests) in
-    rw (not_less, same) (not_before_itself xs)
-
 before_differs : (n m : List ℕ) → bytes_before n m ≡ true → m ≢ n
-before_differs n m e same = (let clash : true ≡ false = sym e ∙ ap (bytes_before n) same ∙ not_before_itself n in cc)
+before_differs n m e same = (let clash : true ≡ false = sym e ∙ ap (bytes_before n) same ∙ not_itself n in cc)
 
 all_differ : (n : List ℕ) (agents : List ConfiguredAgent) → list_all (bytes_before n) (names_of agents) ≡ true → Each (λ m. m ≢ n) (map (λ (d : RecordParts). d.name) (fresh_records agents))
 all_differ n [] h = tt
 all_differ n (a ∷ agents) h =
-    let both = both_true (bytes_before n a.name) (list_all (bytes_before n) (names_of agents)) h in
+    let both = and_parts (bytes_before n a.name) (list_all (bytes_before n) (names_of agents)) h in
     (before_differs n a.name both.0, all_differ n agents both.1)
 
 pub once : (agents : List ConfiguredAgent) → are_ordered (names_of agents) ≡ true → NamesOnce (map (λ (d : RecordParts). d.name) (fresh_records agents))
 once [] h = tt
 once (a ∷ agents) h =
-    let both = both_true (list_all (bytes_before a.name) (names_of agents)) (are_ordered (names_of agents)) h in
+    let both = and_parts (list_all (bytes_before a.name) (names_of agents)) (are_ordered (names_of agents)) h in
     (all_differ a.name agents both.0, once agents both.1)
 
 -- ---- no tasks

@@ -14,14 +14,12 @@ use Rattle.master_agents.specs.Configs.{are_ordered, names_of}
 use Rattle.master_agents.specs.declared.config.ConfiguredAgent.{ConfiguredAgent}
 use Rattle.cluster_model.specs.Ids.{bytes_before}
 use Rattle.cluster_model.specs.Openings.{NamesOnce}
-use Rattle.cluster_laws.proofs.Lists.{both_true, bytes_differ}
 use Rattle.cluster_laws.specs.Parts.{AreAgentsOf}
 use Rattle.cluster_agents.specs.Records.{AreRecordsOf, IsRecordOf, StandInOrder, comes_before, in_order, named}
 use Rattle.quantity.specs.Laws.{AtLeast}
 use Rattle.cluster_agents.proofs.Permuted.{names_permuted}
-
-both_so : (x y : Bool) → x ≡ true → y ≡ true → (x && y) ≡ true
-both_so x y e f = rw (e, f) refl
+use Rattle.names_core.proofs.Lists.{bytes_differ}
+use Rattle.std.proofs.lemmas.Bool.{and_from, and_parts}
 
 -- ---- elements
 
@@ -68,7 +66,7 @@ not_both a b e f = (let clash : true ≡ false = sym f ∙ one_way a b e in cc)
 first_of : (n : List ℕ) (agents : List ConfiguredAgent) (a : ConfiguredAgent) → list_all (bytes_before n) (names_of agents) ≡ true → Contains agents a → bytes_before n a.name ≡ true
 first_of n [] a all h = absurd (nothing_in a h)
 first_of n (x ∷ xs) a all h =
-    let both = both_true (bytes_before n x.name) (list_all (bytes_before n) (names_of xs)) all in
+    let both = and_parts (bytes_before n x.name) (list_all (bytes_before n) (names_of xs)) all in
     elim (either x xs a h) [ inl e ↦ subst (λ (y : ConfiguredAgent). bytes_before n y.name ≡ true) e both.0 | inr k ↦ first_of n xs a both.1 k ]
 
 -- ---- sorted records
@@ -83,18 +81,18 @@ behind_first : (d : RecordParts) (ds : List RecordParts) → ((k : ℕ) → k < 
 behind_first d [] up once = refl
 behind_first d (x ∷ xs) up once =
     let not_before : bytes_before x.name d.name ≡ false = sym (before_text x.name d.name (slice_cmp nat_cmp x.name d.name) refl) ∙ up 0 (omega arith) in
-    both_so (bytes_before d.name x.name) (list_all (bytes_before d.name) (names_in xs))
+    and_from (bytes_before d.name x.name) (list_all (bytes_before d.name) (names_in xs))
     (else_after x.name d.name not_before (bytes_differ x.name d.name once.0)) (behind_first d xs (λ k p. up (suc k) (omega arith)) once.1)
 
 ordered_names : (ds : List RecordParts) → ((i j : ℕ) (d : RecordParts) → i ≤ j → j < length ds → comes_before (get_or ds j d) (get_or ds i d) ≡ false) → NamesOnce (names_in ds) → are_ordered (names_in ds) ≡ true
 ordered_names [] up once = refl
-ordered_names (d ∷ ds) up once = both_so (list_all (bytes_before d.name) (names_in ds)) (are_ordered (names_in ds))
+ordered_names (d ∷ ds) up once = and_from (list_all (bytes_before d.name) (names_in ds)) (are_ordered (names_in ds))
     (behind_first d ds (λ k p. up 0 (suc k) d (omega arith) (omega arith)) once.0) (ordered_names ds (λ i j x p q. up (suc i) (suc j) x (omega arith) (omega arith)) once.1)
 
 first_in : (n : List ℕ) (ds : List RecordParts) (d : RecordParts) → list_all (bytes_before n) (names_in ds) ≡ true → Contains ds d → bytes_before n d.name ≡ true
 first_in n [] d all h = absurd (nothing_in d h)
 first_in n (x ∷ xs) d all h =
-    let both = both_true (bytes_before n x.name) (list_all (bytes_before n) (names_in xs)) all in
+    let both = and_parts (bytes_before n x.name) (list_all (bytes_before n) (names_in xs)) all in
     elim (either x xs d h) [ inl e ↦ subst (λ (y : RecordParts). bytes_before n y.name ≡ true) e both.0 | inr k ↦ first_in n xs d both.1 k ]
 
 -- ---- agents and records, both in the order of their names
@@ -159,8 +157,8 @@ stand_ordered [] [] p q of = tt
 stand_ordered [] (d ∷ ds) p q of = nothing_in (of.only d (front d ds)).0 (of.only d (front d ds)).1
 stand_ordered (a ∷ as_) [] p q of = nothing_in (of.each a (front a as_)).0 (of.each a (front a as_)).1
 stand_ordered (a ∷ as_) (d ∷ ds) p q of =
-    let left = both_true (list_all (bytes_before a.name) (names_of as_)) (are_ordered (names_of as_)) p in
-    let right = both_true (list_all (bytes_before d.name) (names_in ds)) (are_ordered (names_in ds)) q in
+    let left = and_parts (list_all (bytes_before a.name) (names_of as_)) (are_ordered (names_of as_)) p in
+    let right = and_parts (list_all (bytes_before d.name) (names_in ds)) (are_ordered (names_in ds)) q in
     let same : a.name ≡ d.name = first_name a as_ d ds left.0 right.0 of in
     (first_owns a as_ d ds right.0 same of, stand_ordered as_ ds left.1 right.1 (rest_of_records a as_ d ds left.0 right.0 same of))
 

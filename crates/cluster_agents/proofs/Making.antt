@@ -21,6 +21,7 @@ use Rattle.messages.specs.declared.steps.Verdict as verdicts
 use Rattle.messages.specs.Verdicts.{fell}
 use Rattle.cluster_agents.specs.Moves.{Makes, Reached, kept_agents, kept_part, sending}
 use Rattle.cluster_agents.proofs.Finding.{SameBut, one_changes}
+use Rattle.std.proofs.lemmas.List.{append-nil}
 
 -- what the laws give
 pub record Laws : Type 0 where
@@ -65,19 +66,15 @@ items_stand laws c m d sent r e stand = items_by laws.stand c m d sent r e stand
 
 -- ---- streams, where nothing opens and nothing is told
 
-pub append_nothing : {A : Type 0} (xs : List A) → xs ++ [] ≡ xs
-append_nothing {A = A} [] = refl
-append_nothing {A = A} (x ∷ xs) = ap (λ (ys : List A). x ∷ ys) (append_nothing xs)
-
 unreceived : (s : Stream) → receives [] s ≡ s
-unreceived s = ap (λ es. record s { events = es }) (append_nothing s.events)
+unreceived s = ap (λ es. record s { events = es }) (append-nil s.events)
 
 all_unreceived : (streams : List Stream) → map (receives []) streams ≡ streams
 all_unreceived [] = refl
 all_unreceived (s ∷ ss) = rw (unreceived s, all_unreceived ss) refl
 
 pub quiet_streams : (streams : List Stream) → streams_after streams [] [] ≡ streams
-quiet_streams streams = ap (map (receives [])) (append_nothing streams) ∙ all_unreceived streams
+quiet_streams streams = ap (map (receives [])) (append-nil streams) ∙ all_unreceived streams
 
 -- ---- one agent's step
 
@@ -131,4 +128,4 @@ pub one_moves_silently : Laws → (c : Cluster) (s : Step) (place : ℕ) (verdic
     Reached c → StandIn c items → OneMoves c s place verdict [] fallen p →
     Makes c s verdict (sending []) (slice_set (kept_agents c) place (kept_part fallen p)) items
 one_moves_silently laws c s place verdict fallen p items r stand m =
-    subst (Makes c s verdict (sending []) (slice_set (kept_agents c) place (kept_part fallen p))) (append_nothing items) (one_moves laws c s place verdict [] fallen p items r stand m)
+    subst (Makes c s verdict (sending []) (slice_set (kept_agents c) place (kept_part fallen p))) (append-nil items) (one_moves laws c s place verdict [] fallen p items r stand m)

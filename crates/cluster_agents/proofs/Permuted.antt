@@ -11,9 +11,9 @@ use Rattle.messages.specs.declared.record.RecordedTask.{RecordedTask}
 use Rattle.messages.specs.declared.task.Job.{Job}
 use Rattle.names_core.specs.Ids.{Numbered, same}
 use Rattle.cluster_model.specs.Openings.{GoodOpening, KeysOnce, NamesOnce, RecordFits, recorded_jobs}
-use Rattle.cluster_laws.proofs.Lists.{bytes_refl, bytes_same, each_append}
-use Rattle.cluster_safe.proofs.Ids.{same_is, same_refl}
 use Rattle.cluster_safe.proofs.Orders.{each_left, each_right}
+use Rattle.names_core.proofs.IdOrder.{same-is, same_itself}
+use Rattle.names_core.proofs.Lists.{bytes_eq-is, bytes_eq-refl, each-append}
 
 -- ---- what holds of each
 
@@ -25,7 +25,7 @@ each_permuted P xs ys moved h = recursion_from_All P ys (All-permutation P xs ys
 
 joined : {A B : Type 0} (P : B → Type 0) (f : A → List B) (xs : List A) → Each (Flat P f) xs → Each P (flat_map f xs)
 joined P f [] h = tt
-joined P f (x ∷ xs) h = each_append P (f x) (flat_map f xs) h.0 (joined P f xs h.1)
+joined P f (x ∷ xs) h = each-append P (f x) (flat_map f xs) h.0 (joined P f xs h.1)
 
 parted : {A B : Type 0} (P : B → Type 0) (f : A → List B) (xs : List A) → Each P (flat_map f xs) → Each (Flat P f) xs
 parted P f [] h = tt
@@ -94,7 +94,7 @@ abbrev jobs_of : RecordParts → List Job
 jobs_of d = map (λ (t : RecordedTask). t.job) d.tasks
 
 abbrev has_key : Numbered → Job → ℕ
-has_key = has key_of same same_is same_refl
+has_key = has key_of same same-is same_itself
 
 -- how many tasks of a record have a key
 abbrev keyed : Numbered → RecordParts → ℕ
@@ -104,17 +104,17 @@ keyed_in_all : (k : Numbered) (ds : List RecordParts) → sum_by (has_key k) (re
 keyed_in_all k [] = refl
 keyed_in_all k (d ∷ ds) = omega (arith, sum_by-append (has_key k) (jobs_of d) (recorded_jobs ds), sum_by-cons (keyed k) d ds, keyed_in_all k ds)
 
-keys_to : (js : List Job) → KeysOnce js → Once key_of same same_is same_refl js
+keys_to : (js : List Job) → KeysOnce js → Once key_of same same-is same_itself js
 keys_to [] h = tt
 keys_to (j ∷ js) h = (h.0, keys_to js h.1)
 
-keys_from : (js : List Job) → Once key_of same same_is same_refl js → KeysOnce js
+keys_from : (js : List Job) → Once key_of same same-is same_itself js → KeysOnce js
 keys_from [] h = tt
 keys_from (j ∷ js) h = (h.0, keys_from js h.1)
 
 keys_permuted : (xs ys : List RecordParts) → IsPermutation xs ys → KeysOnce (recorded_jobs xs) → KeysOnce (recorded_jobs ys)
-keys_permuted xs ys moved h = keys_from (recorded_jobs ys) (once_so key_of same same_is same_refl (recorded_jobs ys) (λ k.
-    omega (arith, keyed_in_all k xs, keyed_in_all k ys, sum_by-IsPermutation (keyed k) xs ys moved, at_most_one key_of same same_is same_refl k (recorded_jobs xs) (keys_to (recorded_jobs xs) h))))
+keys_permuted xs ys moved h = keys_from (recorded_jobs ys) (once_so key_of same same-is same_itself (recorded_jobs ys) (λ k.
+    omega (arith, keyed_in_all k xs, keyed_in_all k ys, sum_by-IsPermutation (keyed k) xs ys moved, at_most_one key_of same same-is same_itself k (recorded_jobs xs) (keys_to (recorded_jobs xs) h))))
 
 -- ---- names
 
@@ -129,17 +129,17 @@ each_name : (n : List ℕ) (ds : List RecordParts) → Each (λ d. name_of d ≢
 each_name n [] h = tt
 each_name n (d ∷ ds) h = (h.0, each_name n ds h.1)
 
-names_to : (ds : List RecordParts) → NamesOnce (map name_of ds) → Once name_of bytes_eq bytes_same bytes_refl ds
+names_to : (ds : List RecordParts) → NamesOnce (map name_of ds) → Once name_of bytes_eq bytes_eq-is bytes_eq-refl ds
 names_to [] h = tt
 names_to (d ∷ ds) h = (each_named d.name ds h.0, names_to ds h.1)
 
-names_from : (ds : List RecordParts) → Once name_of bytes_eq bytes_same bytes_refl ds → NamesOnce (map name_of ds)
+names_from : (ds : List RecordParts) → Once name_of bytes_eq bytes_eq-is bytes_eq-refl ds → NamesOnce (map name_of ds)
 names_from [] h = tt
 names_from (d ∷ ds) h = (each_name d.name ds h.0, names_from ds h.1)
 
 pub names_permuted : (xs ys : List RecordParts) → IsPermutation xs ys → NamesOnce (map name_of xs) → NamesOnce (map name_of ys)
-names_permuted xs ys moved h = names_from ys (once_so name_of bytes_eq bytes_same bytes_refl ys (λ k.
-    omega (arith, sum_by-IsPermutation (has name_of bytes_eq bytes_same bytes_refl k) xs ys moved, at_most_one name_of bytes_eq bytes_same bytes_refl k xs (names_to xs h))))
+names_permuted xs ys moved h = names_from ys (once_so name_of bytes_eq bytes_eq-is bytes_eq-refl ys (λ k.
+    omega (arith, sum_by-IsPermutation (has name_of bytes_eq bytes_eq-is bytes_eq-refl k) xs ys moved, at_most_one name_of bytes_eq bytes_eq-is bytes_eq-refl k xs (names_to xs h))))
 
 -- ---- the opening
 

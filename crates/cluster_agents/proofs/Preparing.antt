@@ -39,9 +39,12 @@ use Rattle.cluster_agents.specs.Agents.{KeptAgent, agent_in, comes_up_without, d
 use Rattle.cluster_agents.specs.Causes.{Causes, Drawn, cause_due, for_it, item_at, mail_due, record_drawn, record_prepared}
 use Rattle.cluster_agents.specs.Handing.{MayRefuse, is_withheld}
 use Rattle.cluster_agents.specs.Moves.{ComeInOrder, Makes, Reached, Refuses, kept_agents, kept_part, sending}
-use Rattle.cluster_agents.proofs.Finding.{Found, found, not_found, kept_at, bytes_same, bytes_refl, falls_alone, is_down_then}
-use Rattle.cluster_agents.proofs.Making.{Laws, OneMoves, append_nothing, items_stand, one_moves_silently, quiet_streams}
+use Rattle.cluster_agents.proofs.Finding.{Found, found, not_found, kept_at, falls_alone, is_down_then}
+use Rattle.cluster_agents.proofs.Making.{Laws, OneMoves, items_stand, one_moves_silently, quiet_streams}
 use Rattle.cluster_agents.proofs.Committing.{if_it_is_down, if_it_is_up}
+use Rattle.names_core.proofs.Lists.{bytes_eq-is, bytes_eq-refl}
+use Rattle.std.proofs.lemmas.Bool.{not-true}
+use Rattle.std.proofs.lemmas.List.{append-nil}
 
 pub record MoreLaws : Type 0 where
   pub laws : Laws
@@ -103,12 +106,12 @@ draws_down more c x n k to down n_is here recorded for none =
     let same : down.1 ≡ x = (let s : Some down.1 ≡ Some x = sym down.3 ∙ ap (channel_of c) for ∙ here in cc) in
     let mail : slice_get x.to_agent place ≡ Some to.mail = subst (λ (y : Channel). slice_get y.to_agent place ≡ Some to.mail) same down.4 in
     let post : post_at c n ≡ Some (Down to.agent place) = subst (λ (m : ℕ). post_at c m ≡ Some (Down to.agent place)) (sym n_is) down.2 in
-    let receives : next_of x.agent (causes.Mail to) ≡ receives_mail x.agent to.mail = if_it_is_down (bytes_eq to.agent x.agent.durable.name) (receives_mail x.agent to.mail) (Err NotForMe) (ap (bytes_eq to.agent) (recorded ∙ sym for) ∙ bytes_refl to.agent) in
+    let receives : next_of x.agent (causes.Mail to) ≡ receives_mail x.agent to.mail = if_it_is_down (bytes_eq to.agent x.agent.durable.name) (receives_mail x.agent to.mail) (Err NotForMe) (ap (bytes_eq to.agent) (recorded ∙ sym for) ∙ bytes_eq-refl to.agent) in
     record {
       step = DrawMail place;
       silent = tt;
       asks = ap (draws_mail c x) post
-          ∙ if_it_is_down (bytes_eq to.agent x.side.name) (draws_mail_at c x place (slice_get x.to_agent place)) (does c (happening c (AgentRefused NotForMe) [])) (ap (bytes_eq to.agent) (sym for) ∙ bytes_refl to.agent)
+          ∙ if_it_is_down (bytes_eq to.agent x.side.name) (draws_mail_at c x place (slice_get x.to_agent place)) (does c (happening c (AgentRefused NotForMe) [])) (ap (bytes_eq to.agent) (sym for) ∙ bytes_eq-refl to.agent)
           ∙ ap (draws_mail_at c x place) mail
           ∙ ap (drafts c x (DrawMail place)) (sym receives);
       becomes = λ d e. more.laws.draws_mail x place to.mail d mail none (sym receives ∙ e);
@@ -121,7 +124,7 @@ is_given : (name : List ℕ) (to : ToAgent) (given : Cause) → for_it name to �
 is_given name to given e = by (bytes_eq to.agent name) refl e
   where
     by : (t : Bool) → bytes_eq to.agent name ≡ t → (if bytes_eq to.agent name then Some (causes.Mail to) else None) ≡ Some given → (to.agent ≡ name) × (causes.Mail to ≡ given)
-    by true b f = (bytes_same to.agent name b, (let s : Some (causes.Mail to) ≡ Some given = rw b at f in cc))
+    by true b f = (bytes_eq-is to.agent name b, (let s : Some (causes.Mail to) ≡ Some given = rw b at f in cc))
     by false b f = absurd (let clash : None ≡ Some given = rw b at f in cc)
 
 draws_by_mail : MoreLaws → (c : Cluster) (x : Channel) (n : ℕ) (given : Cause) (i : Option Item) → Under c n i → channel_of c x.side.name ≡ Some x → x.agent.durable.name ≡ x.side.name → x.draft ≡ None → mail_due x.side.name i ≡ Some (Some given) → Drawing c x (Mail n) given
@@ -184,7 +187,7 @@ stays more c s refusal sent r stand e = record {
   ends = refl;
   brings = refl;
   keeps_agents = refl;
-  keeps_items = subst (StandIn d.after) (append_nothing sent) (items_stand more.laws c (record { fell = false; step = s }) d sent r e stand);
+  keeps_items = subst (StandIn d.after) (append-nil sent) (items_stand more.laws c (record { fell = false; step = s }) d sent r e stand);
   leaves_master = refl;
   leaves_streams = quiet_streams c.streams;
   leaves_moment = refl;
@@ -382,10 +385,6 @@ unsent_or_taken c x (Some (Down agent place)) = by (bytes_eq agent x.side.name)
     by true = unsent_or_taken_at c x place (slice_get x.to_agent place)
     by false = inr (_, refl)
 
-not_true : (b : Bool) → not b ≡ true → b ≡ false
-not_true true e = absurd (let clash : false ≡ true = e in cc)
-not_true false e = refl
-
 withheld_so : (c : Cluster) (name : List ℕ) (x : Channel) (n : ℕ) (gives : ℕ → Bool) → answer c (Prepare name (Mail n)) ≡ draws_mail c x (post_at c n) → gives n ≡ false → MayRefuse c gives (Prepare name (Mail n)) faults.NoSuchMail
 withheld_so c name x n gives asked none = by (unsent_or_taken c x (post_at c n))
   where
@@ -401,7 +400,7 @@ prepare_withheld c name place a (Executor key state) gives e at is_up free held 
 prepare_withheld c name place a (Mail n) gives e at is_up free held = by (ready c name place a e at is_up free)
   where
     by : Ready c name place a → MayRefuse c gives (Prepare name (Mail n)) faults.NoSuchMail
-    by y = subst (λ (m : List ℕ). MayRefuse c gives (Prepare m (Mail n)) faults.NoSuchMail) y.call_effect (withheld_so c y.x.side.name y.x n gives (y.asked (Mail n)) (not_true (gives n) held))
+    by y = subst (λ (m : List ℕ). MayRefuse c gives (Prepare m (Mail n)) faults.NoSuchMail) y.call_effect (withheld_so c y.x.side.name y.x n gives (y.asked (Mail n)) (not-true (gives n) held))
 
 -- ---- the record of the draft that was opened
 

@@ -13,6 +13,8 @@ use Rattle.cluster_channels.specs.declared.posts.Sent.{Sent}
 use Rattle.cluster_channels.specs.Queueing.{Item, is_next, nothing_waits, same_queue}
 use Rattle.cluster_channels.specs.Stores.{AreInOrder, IsLast, item_of, items_of}
 use Rattle.cluster_channels.proofs.Lists.{all_pass, get_of_take, one_fails, take_of_get}
+use Rattle.std.proofs.Math.Bool.{and-false}
+use Rattle.std.proofs.lemmas.Bool.{or_left}
 
 same_number : (a b c : ℕ) → eqb a b ≡ true → eqb a c ≡ true → eqb b c ≡ true
 same_number a b c h k = eq-eqb b c (sym (eqb-true a b h) ∙ eqb-true a c k)
@@ -22,13 +24,6 @@ pub in_one_queue : (d a b : Direction) → same_queue d a ≡ true → same_queu
 in_one_queue (ToAgent x) (ToAgent y) (ToAgent z) h k = same_number x y z h k
 in_one_queue (FromAgent x) (FromAgent y) (FromAgent z) h k = same_number x y z h k
 in_one_queue d a b h k = cc
-
-and_false : (a : Bool) → (a && false) ≡ false
-and_false true = refl
-and_false false = refl
-
-or_given : (a b : Bool) → a ≡ true → (a || b) ≡ true
-or_given a b h = rw h refl
 
 or_other : (a b : Bool) → b ≡ false → (a || not b) ≡ true
 or_other true b h = refl
@@ -60,7 +55,7 @@ waits_not_at d xs i p j x order last all at =
     elim (cases_Bool (same_queue d x.direction)) [
       | inr other ↦ or_other x.given (same_queue d x.direction) other
       | inl same ↦ elim (leb_tells p j) [
-        | inr h ↦ or_given x.given (not (same_queue d x.direction)) (given_before d xs i p j x order last all at h.1 same)
+        | inr h ↦ or_left x.given (not (same_queue d x.direction)) (given_before d xs i p j x order last all at h.1 same)
         | inl h ↦ or_other x.given (same_queue d x.direction) (last.above j x h.1 at)
       ]
     ]
@@ -111,7 +106,7 @@ waits_behind_other xs i x y order at some before waits =
     let lt : x.previous - 1 < i = omega (arith, some, last.within, length-take i xs) in
     let same : same_queue x.direction y.direction ≡ true = last.found y some (take_of_get i xs (x.previous - 1) y lt before) in
     let one = one_waits x.direction xs i (x.previous - 1) y lt before same waits in
-    rw (item_at xs i x at, one) (and_false (not x.given))
+    rw (item_at xs i x at, one) (and-false (not x.given))
 
 pub previous_is_inside : (xs : List Sent) (i : ℕ) (x : Sent) → AreInOrder xs → slice_get xs i ≡ Some x → 0 < x.previous → x.previous - 1 < length xs
 previous_is_inside xs i x order at some = omega (arith, some, (order.chained i x at).within, length-take i xs)

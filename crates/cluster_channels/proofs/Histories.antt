@@ -31,6 +31,7 @@ use Rattle.cluster_laws.proofs.Streams.{history_streams}
 use Rattle.cluster_channels.specs.Streams.{kept_ids}
 use Rattle.cluster_channels.specs.Kept.{AreWithin, kept_streams, untaken}
 use Rattle.cluster_channels.proofs.StreamsKeeping.{after_within, take_within, answers_untaken, ids_kept}
+use Rattle.cluster_model.proofs.Chains.{extend_more}
 
 -- one step
 
@@ -157,10 +158,6 @@ step_keeps c s = by_test c (nat_le last_number c.entries) (Err HistoryFull) (if 
     (by_test c s.fell (fallen_answer c s.step) (answer c s.step) (fallen_keeps c s.step) (answer_keeps c s.step))
 
 -- histories
-
-extend_more : (h : History) (ss : List Marked) (s : Marked) → extend_all h (ss ++ s ∷ []) ≡ extended (extend_all h ss) s.step (step_marked (extend_all h ss).state s)
-extend_more h [] s = refl
-extend_more h (x ∷ ss) s = extend_more (extended h x.step (step_marked h.state x)) ss s
 
 extended_keeps : (h : History) (step : Step) (r : Result Done ClusterFault) → Keeps h.state r → AreRising (ids_of h.state.streams) → AreWithin h.state.streams → AreWithin (extended h step r).state.streams
 extended_keeps h step (Ok d) f rising within = f rising within

@@ -15,6 +15,9 @@ use Rattle.cluster_channels.specs.declared.posts.Sent.{Sent}
 use Rattle.cluster_channels.specs.Queueing.{Item, direction_in, handed_over, hands_out, is_next, nothing_waits, same_queue, with_given}
 use Rattle.cluster_channels.specs.Stores.{AreInOrder, AreLasts, IsLast, LastsByAgent, given_sent, item_of, items_of, last_in}
 use Rattle.cluster_channels.proofs.Lists.{each_passes, get_of_one_more, get_of_set, take_of_get}
+use Rattle.names_core.proofs.Tests.{given_or}
+use Rattle.std.proofs.Math.Bool.{and-false}
+use Rattle.std.proofs.lemmas.Bool.{and_parts, not-true}
 
 -- ---- lists with the same directions
 
@@ -168,18 +171,6 @@ directions_stay xs k x at (suc i) = direction_after xs k x at i
 
 -- ---- the one that is handed out
 
-and_false : (a : Bool) → (a && false) ≡ false
-and_false true = refl
-and_false false = refl
-
-and_parts : (a b : Bool) → (a && b) ≡ true → (a ≡ true) × (b ≡ true)
-and_parts true b e = (refl, e)
-and_parts false b e = cc
-
-not_true : (a : Bool) → not a ≡ true → a ≡ false
-not_true true e = cc
-not_true false e = refl
-
 pub record IsFront (xs : List Sent) (i : ℕ) (x : Sent) : Type 0 where
   pub at : slice_get xs i ≡ Some x
   pub waits : x.given ≡ false
@@ -190,16 +181,11 @@ next_is_front xs i e = elim (slice_get_cases xs i).1 [
   | inl h ↦
       let item : slice_get (items_of xs) i ≡ Some (item_of h.0) = slice_get-map item_of xs i ∙ ap (option_map item_of) h.2 in
       let parts = and_parts (not h.0.given) (nothing_waits h.0.direction (take i (items_of xs))) (rw item at e) in
-      (h.0, record { at = h.2; waits = not_true h.0.given parts.0; first = parts.1 })
+      (h.0, record { at = h.2; waits = not-true h.0.given parts.0; first = parts.1 })
   | inr h ↦
       let none : slice_get (items_of xs) i ≡ None = slice_get-map item_of xs i ∙ ap (option_map item_of) h.1 in
       let bad : false ≡ true = rw none at e in cc
 ]
-
-given_or : (a b : Bool) → (a || not b) ≡ true → b ≡ true → a ≡ true
-given_or true b e k = refl
-given_or false true e k = cc
-given_or false false e k = cc
 
 pub front_behind_given : (xs : List Sent) (i : ℕ) (x : Sent) → IsFront xs i x → (j : ℕ) (s : Sent) → j < i → slice_get xs j ≡ Some s → same_queue x.direction s.direction ≡ true → s.given ≡ true
 front_behind_given xs i x front j s lt at same =
@@ -230,7 +216,7 @@ pub given_once : (xs : List Sent) (n : ℕ) (x : Sent) → slice_get xs (n - 1) 
 given_once xs n x at =
     let lt : n - 1 < length (items_of xs) = omega (arith, slice_get_within xs (n - 1) x at, length-map xs item_of) in
     let there = get_after_set (items_of xs) (n - 1) (item_of (given_sent x)) lt in
-    rw (map-set item_of xs (n - 1) (given_sent x), there) (and_false (nat_lt 0 n))
+    rw (map-set item_of xs (n - 1) (given_sent x), there) (and-false (nat_lt 0 n))
 
 -- ---- along equations
 

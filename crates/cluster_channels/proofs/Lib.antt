@@ -1,9 +1,10 @@
 pub mod Handing
-pub mod Keeping
-pub mod Lists
-pub mod Linking
-pub mod Once
-pub mod Standing
-pub mod Receiving
-pub mod StreamsKeeping
 pub mod Histories
+pub mod Keeping
+pub mod Linking
+pub mod Lists
+pub mod Once
+pub mod Receiving
+pub mod Shared
+pub mod Standing
+pub mod StreamsKeeping

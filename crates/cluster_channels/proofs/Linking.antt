@@ -14,16 +14,13 @@ use Rattle.cluster_channels.specs.Queueing.{Item, handed_over, hands_out, is_nex
 use Rattle.cluster_channels.specs.Stores.{AreInOrder, AreLasts, AreLinked, IsFirstOrNone, IsFollowed, IsLast, LastsByAgent, before, first_in, first_with, given_sent, item_of, items_of, last_in, with_first, with_next}
 use Rattle.cluster_channels.proofs.Handing.{item_at, none_waits}
 use Rattle.cluster_channels.proofs.Keeping.{IsFront, directions, get_in_front, get_last, items_with_given, last_is_new, last_of_more, last_of_same, newest_can_go, older_stay, order_after_front, queue_both_ways, same_at, same_directions, same_directions_taken, same_length}
-use Rattle.cluster_channels.proofs.Lists.{both_true, get_of_one_more, get_of_set}
+use Rattle.cluster_channels.proofs.Lists.{get_of_one_more, get_of_set}
 use Rattle.cluster_channels.proofs.Once.{there_at}
+use Rattle.cluster_channels.proofs.Shared.{same_direction}
+use Rattle.std.proofs.lemmas.Bool.{and_parts}
 
 abbrev nothing : Sent
 nothing = record { direction = Call; previous = 0; given = false }
-
-same_direction : (d e : Direction) → same_queue d e ≡ true → d ≡ e
-same_direction (ToAgent a) (ToAgent b) h = ap ToAgent (eqb-true a b h)
-same_direction (FromAgent a) (FromAgent b) h = ap FromAgent (eqb-true a b h)
-same_direction d e h = cc
 
 -- ---- the one behind the last that was handed out is the first that waits
 
@@ -148,9 +145,9 @@ none_taken : (d : Direction) (p : ℕ) (items : List Item) (k : ℕ) (x : Item) 
 none_taken d p [] k x none = none
 none_taken d zero (y ∷ ys) zero x none = refl
 none_taken d zero (y ∷ ys) (suc k) x none = refl
-none_taken d (suc p) (y ∷ ys) zero x none = (both_true (y.given || not (same_queue d y.direction)) (nothing_waits d (take p ys)) none).1
+none_taken d (suc p) (y ∷ ys) zero x none = (and_parts (y.given || not (same_queue d y.direction)) (nothing_waits d (take p ys)) none).1
 none_taken d (suc p) (y ∷ ys) (suc k) x none =
-    let parts = both_true (y.given || not (same_queue d y.direction)) (nothing_waits d (take p ys)) none in
+    let parts = and_parts (y.given || not (same_queue d y.direction)) (nothing_waits d (take p ys)) none in
     rw (parts.0, none_taken d p ys k x parts.1) refl
 
 none_with_given : (d : Direction) (items : List Item) (k : ℕ) (x : Item) → nothing_waits d items ≡ true → nothing_waits d (set items k (handed_over x)) ≡ true
@@ -163,7 +160,7 @@ none_with_given d items k x none =
 next_at : (items : List Item) (p : ℕ) → hands_out items (suc p) ≡ true → is_next (take p items) (slice_get items p) ≡ true
 next_at items p e =
     let less : suc p - 1 ≡ p = omega arith in
-    let next = (both_true (nat_lt 0 (suc p)) (is_next (take (suc p - 1) items) (slice_get items (suc p - 1))) e).1 in
+    let next = (and_parts (nat_lt 0 (suc p)) (is_next (take (suc p - 1) items) (slice_get items (suc p - 1))) e).1 in
     rw less at next
 
 queue_at : (d : Direction) (items : List Item) (p : ℕ) → IfSome (slice_get items (suc p - 1)) (λ (i : Item). same_queue d i.direction ≡ true) → IfSome (slice_get items p) (λ (i : Item). same_queue d i.direction ≡ true)
@@ -179,7 +176,7 @@ first_with_given d items k x (suc p) at other first =
     let queue : same_queue d y.direction ≡ true = let in_queue = queue_at d items p first.1 in rw there.1 at in_queue in
     let apart : p ≢ k = λ e. let here : slice_get items k ≡ Some y = rw (← e) there.1 in let bad : ⊥ = cc in bad in
     let still : slice_get (set items k (handed_over x)) p ≡ Some y = get_beside items k (handed_over x) p apart ∙ there.1 in
-    let parts = both_true (not y.given) (nothing_waits y.direction (take p items)) there.2 in
+    let parts = and_parts (not y.given) (nothing_waits y.direction (take p items)) there.2 in
     let none : nothing_waits y.direction (take p (set items k (handed_over x))) ≡ true = none_taken y.direction p items k x parts.1 in
     (rw (some, less, still, parts.0, none) refl, rw (less, still) queue)
 
@@ -281,7 +278,7 @@ either_way false = refl
 none_of_more : (d : Direction) (items : List Item) (y : Item) → same_queue d y.direction ≡ false → nothing_waits d items ≡ true → nothing_waits d (items ++ y ∷ []) ≡ true
 none_of_more d [] y other none = rw other (either_way y.given)
 none_of_more d (x ∷ xs) y other none =
-    let parts = both_true (x.given || not (same_queue d x.direction)) (nothing_waits d xs) none in
+    let parts = and_parts (x.given || not (same_queue d x.direction)) (nothing_waits d xs) none in
     rw (parts.0, none_of_more d xs y other parts.1) refl
 
 -- the first that waited in a queue is the first still

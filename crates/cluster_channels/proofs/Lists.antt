@@ -1,10 +1,8 @@
 -- What stands at a place of a list.
 use Rattle.std.proofs.Common.{◌≡◌, ◌≢◌, ◌<◌, ℕ, suc, zero, ◌⊎◌, inl, inr, Bool, true, false, ◌&&◌, List, [], ◌∷◌, ◌++◌, length, take, set, Some, refl, ap, arith}
 use Rattle.std.specs.List.{slice_get, list_all}
-
-pub both_true : (a b : Bool) → (a && b) ≡ true → (a ≡ true) × (b ≡ true)
-both_true true b e = (refl, e)
-both_true false b e = absurd (let bad : ⊥ = cc in bad)
+use Rattle.std.proofs.Math.Bool.{and-false}
+use Rattle.std.proofs.lemmas.Bool.{and_parts}
 
 pub all_pass : {X : Type 0} (p : X → Bool) (xs : List X) → ((i : ℕ) (x : X) → slice_get xs i ≡ Some x → p x ≡ true) → list_all p xs ≡ true
 all_pass p [] h = refl
@@ -15,17 +13,13 @@ all_pass p (x ∷ xs) h =
 
 pub each_passes : {X : Type 0} (p : X → Bool) (xs : List X) (i : ℕ) (x : X) → list_all p xs ≡ true → slice_get xs i ≡ Some x → p x ≡ true
 each_passes p [] i x h e = absurd (let bad : ⊥ = cc in bad)
-each_passes p (y ∷ ys) zero x h e = let same : y ≡ x = cc in rw (← same) (both_true (p y) (list_all p ys) h).0
-each_passes p (y ∷ ys) (suc i) x h e = each_passes p ys i x (both_true (p y) (list_all p ys) h).1 e
-
-and_false : (a : Bool) → (a && false) ≡ false
-and_false true = refl
-and_false false = refl
+each_passes p (y ∷ ys) zero x h e = let same : y ≡ x = cc in rw (← same) (and_parts (p y) (list_all p ys) h).0
+each_passes p (y ∷ ys) (suc i) x h e = each_passes p ys i x (and_parts (p y) (list_all p ys) h).1 e
 
 pub one_fails : {X : Type 0} (p : X → Bool) (xs : List X) (i : ℕ) (x : X) → slice_get xs i ≡ Some x → p x ≡ false → list_all p xs ≡ false
 one_fails p [] i x e h = absurd (let bad : ⊥ = cc in bad)
 one_fails p (y ∷ ys) zero x e h = let same : y ≡ x = cc in rw (same, h) refl
-one_fails p (y ∷ ys) (suc i) x e h = let rest = one_fails p ys i x e h in rw rest (and_false (p y))
+one_fails p (y ∷ ys) (suc i) x e h = let rest = one_fails p ys i x e h in rw rest (and-false (p y))
 
 nothing_taken : {X : Type 0} (xs : List X) (i : ℕ) (x : X) → slice_get (take 0 xs) i ≡ Some x → ⊥
 nothing_taken [] i x e = cc

@@ -8,17 +8,15 @@ use Rattle.std.proofs.lemmas.Option.{slice_get-get_or, slice_get_within}
 use Rattle.cluster_channels.specs.declared.posts.Direction.{Direction}
 use Rattle.cluster_channels.specs.Queueing.{AreBeforeGiven, Item, WasGiven, handed_over, hands_out, is_next, nothing_waits, same_queue, with_given, with_put}
 use Rattle.cluster_channels.proofs.Keeping.{given_at}
-use Rattle.cluster_channels.proofs.Lists.{both_true, each_passes, get_of_set, take_of_get}
+use Rattle.cluster_channels.proofs.Lists.{each_passes, get_of_set, take_of_get}
 use Rattle.cluster_channels.specs.Numbers.{handed_out_was_put}
-
-and_no : (a : Bool) → (a && false) ≡ false
-and_no true = refl
-and_no false = refl
+use Rattle.std.proofs.Math.Bool.{and-false}
+use Rattle.std.proofs.lemmas.Bool.{and_parts}
 
 pub given_no_more : (items : List Item) (n : ℕ) → WasGiven items n → hands_out items n ≡ false
 given_no_more items n (pos, i, at, given) =
     let no : is_next (take (n - 1) items) (slice_get items (n - 1)) ≡ false = rw (at, given) refl in
-    rw no (and_no (nat_lt 0 n))
+    rw no (and-false (nat_lt 0 n))
 
 set_given : (xs : List Item) (k : ℕ) (v : Item) (i : ℕ) (x : Item) → slice_get xs i ≡ Some x → x.given ≡ true → v.given ≡ true → (y : Item) × (slice_get (set xs k v) i ≡ Some y) × (y.given ≡ true)
 set_given xs k v i x at given given_there =
@@ -52,7 +50,7 @@ there_at before (Some x) e = (x, refl, e)
 
 pub given_then : (items : List Item) (n : ℕ) → hands_out items n ≡ true → WasGiven (with_given items n) n
 given_then items n e =
-    let there = there_at (take (n - 1) items) (slice_get items (n - 1)) (both_true (nat_lt 0 n) (is_next (take (n - 1) items) (slice_get items (n - 1))) e).1 in
+    let there = there_at (take (n - 1) items) (slice_get items (n - 1)) (and_parts (nat_lt 0 n) (is_next (take (n - 1) items) (slice_get items (n - 1))) e).1 in
     let lt : n - 1 < length items = slice_get_within items (n - 1) there.0 there.1 in
     let new = set items (n - 1) (handed_over there.0) in
     let whole : with_given items n ≡ new = given_at items n there.0 there.1 in
@@ -71,9 +69,9 @@ or_first false b same e = let clash : not b ≡ true = e in cc
 
 pub before_given : (items : List Item) (n : ℕ) → hands_out items n ≡ true → AreBeforeGiven items n
 before_given items n e m i j pos lt at_m at_n same =
-    let there = there_at (take (n - 1) items) (slice_get items (n - 1)) (both_true (nat_lt 0 n) (is_next (take (n - 1) items) (slice_get items (n - 1))) e).1 in
+    let there = there_at (take (n - 1) items) (slice_get items (n - 1)) (and_parts (nat_lt 0 n) (is_next (take (n - 1) items) (slice_get items (n - 1))) e).1 in
     let is : there.0 ≡ j = cc in
-    let none : nothing_waits there.0.direction (take (n - 1) items) ≡ true = (both_true (not there.0.given) (nothing_waits there.0.direction (take (n - 1) items)) there.2).1 in
+    let none : nothing_waits there.0.direction (take (n - 1) items) ≡ true = (and_parts (not there.0.given) (nothing_waits there.0.direction (take (n - 1) items)) there.2).1 in
     let below : m - 1 < n - 1 = omega (arith, pos, lt) in
     let one = each_passes (λ (k : Item). k.given || not (same_queue there.0.direction k.direction)) (take (n - 1) items) (m - 1) i none (take_of_get (n - 1) items (m - 1) i below at_m) in
     (pos, i, at_m, or_first i.given (same_queue there.0.direction i.direction) (rw is same) one)

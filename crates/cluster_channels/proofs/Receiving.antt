@@ -11,7 +11,8 @@ use Rattle.cluster_laws.specs.Runs.{AreRising}
 use Rattle.messages.specs.declared.events.Event.{Event}
 use Rattle.messages.specs.declared.events.StreamEvent.{StreamEvent}
 use Rattle.cluster_channels.specs.Streams.{KeptStream, kept_ids, is_kept_as, receiving, opened_stream, received, taking, taken}
-use Rattle.cluster_channels.proofs.Standing.{LeavesOthers, each_at, earlier_differs, others, others_stay, none_at, stands_at}
+use Rattle.cluster_channels.proofs.Standing.{LeavesOthers, each_at, others, others_stay, none_at, stands_at}
+use Rattle.names_core.proofs.IdOrder.{earlier_differs}
 
 turned : (a b : Numbered) (answer : Bool) → same a b ≡ answer → same b a ≡ answer
 turned a b true h = grind (arith, nat_tests)

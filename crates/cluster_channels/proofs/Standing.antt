@@ -11,15 +11,9 @@ use Rattle.std.proofs.lemmas.Bool.Decides.{nat_tests}
 use Rattle.names_core.specs.Ids.{Numbered, same, before}
 use Rattle.cluster_laws.specs.Runs.{AreRising}
 use Rattle.cluster_channels.specs.Streams.{KeptStream, kept_ids, is_kept_as}
+use Rattle.names_core.proofs.IdOrder.{before_both, earlier_differs, later_differs, sooner_differs}
 
 -- ids
-
--- of two ids, one before the other, one at most is this one
-pub earlier_differs : (a b id : Numbered) → before a b ≡ true → same b id ≡ true → same a id ≡ false
-earlier_differs a b id h k = grind (arith, nat_tests)
-
-pub later_differs : (a b id : Numbered) → before a b ≡ true → same a id ≡ true → same b id ≡ false
-later_differs a b id h k = grind (arith, nat_tests)
 
 pub each_at : (P : Numbered → Type 0) (ss : List KeptStream) (i : ℕ) (s : KeptStream) → Each P (kept_ids ss) → i < length ss → s ≡ get_or ss i s → P s.id
 each_at P [] i s h within is = absurd (omega arith)
@@ -82,12 +76,6 @@ rising_at (x ∷ xs) i zero d rising below within = absurd (omega arith)
 rising_at (x ∷ xs) zero (suc j) d rising below within = each_get (λ later. before x.id later ≡ true) xs j d rising.0 (omega arith)
 rising_at (x ∷ xs) (suc i) (suc j) d rising below within = rising_at xs i j d rising.1 (omega arith) (omega arith)
 
-before_both : (a b c : Numbered) → before a b ≡ true → before b c ≡ true → before a c ≡ true
-before_both a b c h k = grind (arith, nat_tests)
-
-before_differs : (a id : Numbered) → before a id ≡ true → same a id ≡ false
-before_differs a id h = grind (arith, nat_tests)
-
 behind_differs : (a b id : Numbered) → before a id ≡ false → same a id ≡ false → before a b ≡ true → same b id ≡ false
 behind_differs a b id h k l = grind (arith, nat_tests)
 
@@ -111,7 +99,7 @@ fails_at id ss i d rising point other k within = by (nat_lt k i) refl (nat_lt i 
     by : (a : Bool) → nat_lt k i ≡ a → (b : Bool) → nat_lt i k ≡ b → is_kept_as id (get_or ss k d) ≡ false
     by true e b f =
         let below : k < i = grind (arith, nat_tests) in
-        before_differs (get_or ss k d).id id (point.0 k d (omega arith) below)
+        sooner_differs (get_or ss k d).id id (point.0 k d (omega arith) below)
     by false e true f =
         let above : i < k = grind (arith, nat_tests) in
         behind_differs (get_or ss i d).id (get_or ss k d).id id (point.1 i d (omega arith) (omega arith)) (other (omega arith)) (rising_at ss i k d rising above within)

@@ -13,7 +13,8 @@ use Rattle.cluster_model.specs.Steps.{answer, receives, new_stream, stream_at, s
 use Rattle.cluster_laws.specs.Runs.{AreRising, ids_of}
 use Rattle.cluster_channels.specs.Streams.{KeptStream, first_waiting, received, receiving, is_kept_as, kept_ids, next_on, opened_stream, taken, taking}
 use Rattle.cluster_channels.specs.Kept.{AreWithin, kept_stream, kept_streams, untaken, untaken_of}
-use Rattle.cluster_channels.proofs.Standing.{later_differs}
+use Rattle.cluster_laws.proofs.Shared.{received_ids}
+use Rattle.names_core.proofs.IdOrder.{later_differs}
 
 -- hearing
 
@@ -49,10 +50,6 @@ pub after_within : (ss : List Stream) (opens : List Numbered) (sent_events : Lis
 after_within ss opens sent_events h = received_within sent_events (ss ++ map new_stream opens) (both_within ss (map new_stream opens) h (new_within opens))
 
 -- ids
-
-received_ids : (sent_events : List StreamEvent) (ss : List Stream) → ids_of (map (receives sent_events) ss) ≡ ids_of ss
-received_ids sent_events [] = refl
-received_ids sent_events (s ∷ ss) = ap (λ (ids : List Numbered). s.id ∷ ids) (received_ids sent_events ss)
 
 new_ids : (opens : List Numbered) → ids_of (map new_stream opens) ≡ opens
 new_ids [] = refl

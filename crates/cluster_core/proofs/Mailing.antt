@@ -26,12 +26,15 @@ use Rattle.cluster_channels.specs.Numbers.{handed_out_was_put}
 use Rattle.cluster_channels.specs.Queueing.{IsFirstWaiting, direction_in, hands_out, is_next, nothing_waits, same_queue}
 use Rattle.cluster_channels.specs.Queueing as queue
 use Rattle.cluster_channels.proofs.Lists.{each_passes}
-use Rattle.cluster_agents.proofs.Finding.{bytes_same}
 use Rattle.cluster_core.specs.Keeping.{ClusterInvariant}
 use Rattle.cluster_core.specs.Putting.{ArePut, direction_of, place_in, place_or_end}
 use Rattle.cluster_core.specs.Reading.{IsNextFrom, IsNextTo, NoneFrom, NoneTo}
 use Rattle.cluster_core.specs.Stories.{Story, state_of}
 use Rattle.cluster_parts.specs.declared.parts.ClusterState.{ClusterState}
+use Rattle.cluster_channels.proofs.Shared.{same_direction}
+use Rattle.names_core.proofs.Lists.{bytes_eq-is}
+use Rattle.names_core.proofs.Tests.{given_or}
+use Rattle.std.proofs.Math.Bool.{and-false}
 
 -- ---- names and places
 
@@ -52,7 +55,7 @@ one_at x y (a ∷ agents) i k e f = by (named x a) (named y a) refl refl e f (λ
   where
     by : (s t : Bool) → named x a ≡ s → named y a ≡ t → cond s (Some i) (position_from (named x) (i + 1) agents) ≡ Some k → cond t (Some i) (position_from (named y) (i + 1) agents) ≡ Some k →
         (position_from (named x) (i + 1) agents ≡ Some k → position_from (named y) (i + 1) agents ≡ Some k → x ≡ y) → x ≡ y
-    by true true s t h l rest = sym (bytes_same a.name x s) ∙ bytes_same a.name y t
+    by true true s t h l rest = sym (bytes_eq-is a.name x s) ∙ bytes_eq-is a.name y t
     by true false s t h l rest =
         let here : i ≡ k = (let at_once : Some i ≡ Some k = h in cc) in
         let more : i + 1 ≤ k = (from_here y agents (i + 1) k l).0 in
@@ -173,11 +176,6 @@ record Waits (d : Direction) (agents : List ConfiguredAgent) (sent : List Item) 
   at : slice_get sent k ≡ Some item
   goes : direction_of agents item ≡ d
 
-same_direction : (d e : Direction) → same_queue d e ≡ true → d ≡ e
-same_direction (ways.ToAgent a) (ways.ToAgent b) h = ap ways.ToAgent (eqb-true a b h)
-same_direction (ways.FromAgent a) (ways.FromAgent b) h = ap ways.FromAgent (eqb-true a b h)
-same_direction d e h = cc
-
 waits : (c : Cluster) (agents : List ConfiguredAgent) (sent : List Item) (queued : List queue.Item) (d : Direction) (number : ℕ) → Queued c agents sent queued → IsFirstWaiting d queued number → Waits d agents sent number
 waits c agents sent queued d zero of first = absurd (let clash : false ≡ true = first.0 in cc)
 waits c agents sent queued d (suc k) of first =
@@ -198,15 +196,6 @@ not_and : (a b : Bool) → a ≡ true → (not a && b) ≡ false
 not_and true b h = refl
 not_and false b h = absurd (let clash : false ≡ true = h in cc)
 
-and_false : (a : Bool) → (a && false) ≡ false
-and_false true = refl
-and_false false = refl
-
-given_or : (a b : Bool) → (a || not b) ≡ true → b ≡ true → a ≡ true
-given_or true b e k = refl
-given_or false true e k = cc
-given_or false false e k = cc
-
 none_out : (c : Cluster) (agents : List ConfiguredAgent) (sent : List Item) (queued : List queue.Item) (d : Direction) (k : ℕ) (item : Item) → Queued c agents sent queued → nothing_waits d queued ≡ true → same_queue d d ≡ true → slice_get sent k ≡ Some item → direction_of agents item ≡ d → hands_out queued (suc k) ≡ false
 none_out c agents sent queued d k item of none itself at goes =
     let q = queued_at c agents sent queued k item of at in
@@ -218,7 +207,7 @@ none_out c agents sent queued d k item of none itself at goes =
     ap (λ (n : ℕ). nat_lt 0 (suc k) && is_next (take n queued) (slice_get queued n)) less
     ∙ ap (λ (o : Option queue.Item). nat_lt 0 (suc k) && is_next (take k queued) o) q.1
     ∙ ap (λ (b : Bool). nat_lt 0 (suc k) && b) no_next
-    ∙ and_false (nat_lt 0 (suc k))
+    ∙ and-false (nat_lt 0 (suc k))
 
 itself : (n : ℕ) → eqb n n ≡ true
 itself n = eq-eqb n n refl

@@ -14,14 +14,14 @@ use Rattle.cluster_core.specs.Keeping.{IsRefused, IsTaken}
 use Rattle.cluster_core.specs.StepRuns.{Passes, Ran, marked_as}
 use Rattle.cluster_core.specs.Stories.{Story, history_of, state_of, with_entry}
 use Rattle.cluster_core.specs.declared.taken.Taken.{Taken}
-use Rattle.cluster_parts.proofs.Mastering.{extended_more}
 use Rattle.cluster_core.proofs.Telling.{map_more}
 use Rattle.cluster_core.proofs.Posted.{never_withheld}
+use Rattle.cluster_model.proofs.Chains.{extend_more}
 
 -- ---- the history goes on
 
 history_more : (s : Story) (e : Entry) → history_of (with_entry s e) ≡ extended (history_of s) e.step (step_marked (state_of s) (marked_of e))
-history_more s e = ap (history s.setup s.records) (map_more s.entries e) ∙ extended_more (opening s.setup s.records) (map marked_of s.entries) (marked_of e)
+history_more s e = ap (history s.setup s.records) (map_more s.entries e) ∙ extend_more (opening s.setup s.records) (map marked_of s.entries) (marked_of e)
 
 taken_passes : (s new : Story) (step : Step) (taken : Taken) → IsTaken s step taken new → Passes s step new
 taken_passes s new step taken t =
@@ -60,9 +60,6 @@ passes_so s new gives step r (Err e) all taken refused same other = tt
 passes_so s new gives step (Ok x) (Ok u) all taken refused same other = taken_passes s new step x taken
 passes_so s new gives step (Err fault) (Ok u) all taken refused same other = refused_passes s new gives step fault all same refused other
 
-pub numbers_so : (count n : ℕ) → 0 < n → n ≤ count → is_number count n ≡ true
-numbers_so count n first last = grind (arith, nat_tests)
-
 -- ---- all steps
 
 map_step_more : (ms : List Marked) (m : Marked) → map (λ x. x.step) (ms ++ m ∷ []) ≡ map (λ x. x.step) ms ++ m.step ∷ []
@@ -86,5 +83,5 @@ one_ran setup records steps s new step r p =
       of_steps = map_step_more r.marks m ∙ ap (λ (ss : List Step). ss ++ step ∷ []) r.of_steps;
       opened = p.same_setup ∙ r.opened;
       over = p.same_records ∙ r.over;
-      is_history = p.goes_on ∙ ap (λ (h : History). extended h m.step (step_marked h.state m)) r.is_history ∙ sym (extended_more (opening setup records) r.marks m);
+      is_history = p.goes_on ∙ ap (λ (h : History). extended h m.step (step_marked h.state m)) r.is_history ∙ sym (extend_more (opening setup records) r.marks m);
     }

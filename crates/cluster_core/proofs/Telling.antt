@@ -29,7 +29,7 @@ use Rattle.cluster_agents.specs.declared.outcomes.StepOutcome.{StepOutcome}
 use Rattle.cluster_parts.specs.declared.parts.ClusterState.{ClusterState}
 use Rattle.cluster_core.proofs.Puttings.{ItemsLaw, put_still, puts_on, stand_alike}
 use Rattle.cluster_agents.proofs.Committing.{if_it_is_down, if_it_is_up}
-use Rattle.cluster_parts.proofs.Mastering.{extended_more}
+use Rattle.cluster_model.proofs.Chains.{extend_more}
 
 -- ---- how many entries there are
 
@@ -133,7 +133,7 @@ map_more (x ∷ es) e = ap (λ (ms : List Marked). marked_of x ∷ ms) (map_more
 state_more : (s : Story) (e : Entry) (d : Done) → step_marked (state_of s) (marked_of e) ≡ Ok d → state_of (with_entry s e) ≡ d.after
 state_more s e d step =
     ap (λ (ms : List Marked). (history s.setup s.records ms).state) (map_more s.entries e)
-    ∙ ap (λ (x : History). x.state) (extended_more (opening s.setup s.records) (map marked_of s.entries) (marked_of e))
+    ∙ ap (λ (x : History). x.state) (extend_more (opening s.setup s.records) (map marked_of s.entries) (marked_of e))
     ∙ ap (λ (x : Result Done ClusterFault). (extended (history_of s) e.step x).state) step
 
 legal_more : (c : Cluster) (es : List Entry) (e : Entry) (m : Cluster) (d : Done) → Legal c es m → step_marked m (marked_of e) ≡ Ok d → e ≡ entry_of e.step d → Legal c (es ++ e ∷ []) d.after

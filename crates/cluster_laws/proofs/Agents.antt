@@ -14,8 +14,8 @@ use Rattle.quantity.specs.Rows.{covers}
 use Rattle.cluster_model.specs.Agents.{Agent, Draft, receives_mail, next_of, opens_again, owning, recovered, recovered_from, starts}
 use Rattle.cluster_model.specs.Sides.{Run, Side, halted, restarted, side_step}
 use Rattle.cluster_model.specs.Channels.{Channel, AgentStep, Draw, DrawMail, Adopt, StopWithout, StopWith, drawn, drawn_mail, adopted, stopped_with, is_own, agent_step, ChannelStep, ByMaster, Receive, ByAgent, received_mail, happens, World, Happening, At, TearDown, Restart, Halt, behind, in_front, at_agent, with_side, after, open_channel}
-use Rattle.cluster_laws.proofs.Lists.{each_append}
 use Rattle.cluster_laws.proofs.Sides.{side_name, received_name}
+use Rattle.names_core.proofs.Lists.{each-append}
 
 abbrev pub AllOk : (Draft → Type 0) → Result Draft AgentRefusal → Type 0
 AllOk P (Ok d) = P d
@@ -63,7 +63,7 @@ drawn_mail_ok P M c (Some mail) rules ok = drawn_ok P M c c.draft (receives_mail
 
 adopted_ok : (P : List ℕ → Agent → Type 0) (M : AgentMail → Type 0) (c : Channel) (o : Option Draft) → ChannelOk P M c → DraftOk (P c.side.name) M o → ChannelOk P M (adopted c o)
 adopted_ok P M c None ok h = ok
-adopted_ok P M c (Some d) ok h = record { agent = h.0; draft = tt; ups = each_append M c.to_master d.mails ok.ups h.1 }
+adopted_ok P M c (Some d) ok h = record { agent = h.0; draft = tt; ups = each-append M c.to_master d.mails ok.ups h.1 }
 
 stopped_ok : (P : List ℕ → Agent → Type 0) (M : AgentMail → Type 0) (c : Channel) (o : Option Draft) → Rules P M → ChannelOk P M c → DraftOk (P c.side.name) M o → ChannelOk P M (stopped_with c o)
 stopped_ok P M c None rules ok h = ok

@@ -7,14 +7,15 @@ use Rattle.cluster_model.specs.Channels.{Channel}
 use Rattle.cluster_model.specs.Clusters.{Post, Called, Down, Up}
 use Rattle.cluster_model.specs.Openings.{NamesOnce}
 use Rattle.cluster_laws.specs.Items.{names_of, channel_at, to_agent, to_master, down_item, up_item, item_of, Item, Stand}
-use Rattle.cluster_laws.proofs.Lists.{bytes_same, bytes_refl, bytes_differ, each_both, each_unmapped, get_append, cons_same}
+use Rattle.cluster_laws.proofs.Lists.{each_unmapped, cons_same}
 use Rattle.cluster_laws.proofs.Grown.{GrownOne, Grown}
+use Rattle.names_core.proofs.Lists.{bytes_differ, bytes_eq-is, bytes_eq-refl, each_both, slice_get-append}
 
 abbrev pub FoundIn : List Channel → Channel → Type 0
 FoundIn all c = channel_at c.side.name all ≡ Some c
 
 found_first : (c : Channel) (cs : List Channel) → FoundIn (c ∷ cs) c
-found_first c cs = rw (bytes_refl c.side.name) refl
+found_first c cs = rw (bytes_eq-refl c.side.name) refl
 
 found_behind : (c : Channel) (cs : List Channel) (d : Channel) → d.side.name ≢ c.side.name → FoundIn cs d → FoundIn (c ∷ cs) d
 found_behind c cs d differ f = rw (bytes_differ c.side.name d.side.name (λ e. differ (sym e))) f
@@ -32,7 +33,7 @@ found_has P agent (d ∷ cs) c h e = by (bytes_eq d.side.name agent) refl e (λ 
     by true b f rest =
         let found_it : Some d ≡ Some c = rw b at f in
         let is : d ≡ c = cc in
-        (subst P is h.0, subst (λ (x : Channel). x.side.name ≡ agent) is (bytes_same d.side.name agent b))
+        (subst P is h.0, subst (λ (x : Channel). x.side.name ≡ agent) is (bytes_eq-is d.side.name agent b))
     by false b f rest = rest (rw b at f)
 
 -- mails stay
@@ -44,7 +45,7 @@ down_more agent place o n i g e = by (slice_get o.to_agent place) refl e
     by None s e = absurd (let none : None ≡ Some i = rw s at e in cc)
     by (Some m) s e =
         let is : Some (to_agent agent m) ≡ Some i = rw s at e in
-        let there : slice_get n.to_agent place ≡ Some m = subst (λ (ms : List MasterMail). slice_get ms place ≡ Some m) (sym g.down.1) (get_append o.to_agent g.down.0 place m s) in
+        let there : slice_get n.to_agent place ≡ Some m = subst (λ (ms : List MasterMail). slice_get ms place ≡ Some m) (sym g.down.1) (slice_get-append o.to_agent g.down.0 place m s) in
         rw there is
 
 up_more : (agent : List ℕ) (place : ℕ) (o n : Channel) (i : Item) → GrownOne o n → up_item agent place (Some o) ≡ Some i → up_item agent place (Some n) ≡ Some i
@@ -54,7 +55,7 @@ up_more agent place o n i g e = by (slice_get o.to_master place) refl e
     by None s e = absurd (let none : None ≡ Some i = rw s at e in cc)
     by (Some m) s e =
         let is : Some (to_master agent m) ≡ Some i = rw s at e in
-        let there : slice_get n.to_master place ≡ Some m = subst (λ (ms : List AgentMail). slice_get ms place ≡ Some m) (sym g.up.1) (get_append o.to_master g.up.0 place m s) in
+        let there : slice_get n.to_master place ≡ Some m = subst (λ (ms : List AgentMail). slice_get ms place ≡ Some m) (sym g.up.1) (slice_get-append o.to_master g.up.0 place m s) in
         rw there is
 
 -- what is found in the channels before is found in those after

@@ -21,19 +21,20 @@ use Rattle.cluster_model.specs.Openings.{NamesOnce}
 use Rattle.cluster_model.specs.Agents.{is_task}
 use Rattle.cluster_model.specs.Sides.{Run, job_rows, unended}
 use Rattle.cluster_safe.specs.Premises.{MeetsPremises, NextLaunchIsNew}
-use Rattle.cluster_safe.proofs.Ids.{same_is}
 use Rattle.agent_core.specs.Drafts.{receives_in_order, is_in_order, is_next_command, launches_anew}
 use Rattle.quantity.proofs.Amounts.{covers_is_at_least}
 use Rattle.cluster_model.specs.Fits.{AreApart, MailFitsAt}
 use Rattle.cluster_laws.specs.Items.{names_of, channel_at, item_of}
 use Rattle.cluster_laws.specs.declared.item.Item.TheVariants as items
-use Rattle.cluster_laws.proofs.Lists.{both_true, bytes_refl, bytes_same, each_at, each_both}
 use Rattle.cluster_laws.proofs.Found.{FoundIn, found_all, found_has}
 use Rattle.cluster_laws.proofs.Rising.{MailRises, Rises}
 use Rattle.cluster_laws.proofs.Agents.{ChannelOk}
 use Rattle.cluster_laws.proofs.Named.{HasName, AnyMail}
 use Rattle.cluster_laws.proofs.Posts.{down_is, up_is}
 use Rattle.cluster_model.specs.Clusters.{Post}
+use Rattle.names_core.proofs.IdOrder.{same-is}
+use Rattle.names_core.proofs.Lists.{bytes_eq-is, bytes_eq-refl, each_at, each_both}
+use Rattle.std.proofs.lemmas.Bool.{and_parts}
 
 -- a key that no task has
 none_has : (key : Numbered) (ts : List RecordedTask) → Each (λ t. t.job.key ≢ key) ts → list_any (is_task key) ts ≡ false
@@ -41,7 +42,7 @@ none_has key [] h = refl
 none_has key (t ∷ ts) h = by (same t.job.key key) refl (none_has key ts h.1)
   where
     by : (b : Bool) → same t.job.key key ≡ b → list_any (is_task key) ts ≡ false → list_any (is_task key) (t ∷ ts) ≡ false
-    by true e rest = absurd (h.0 (same_is t.job.key key e))
+    by true e rest = absurd (h.0 (same-is t.job.key key e))
     by false e rest = rw (e, rest) refl
 
 launch_anew : (x : Channel) (place session number : ℕ) (command : Command) → NextLaunchIsNew x → slice_get x.to_agent place ≡ Some (Issued session number command) → is_next_command x.agent session number ≡ true → launches_anew x.agent command ≡ true
@@ -51,10 +52,10 @@ launch_anew x place session number (Launch job offers) new e next =
     rw none refl
   where
     last : ((x.agent.in_session && session == x.agent.durable.session) ≡ true) × ((number == suc x.agent.applied) ≡ true)
-    last = both_true (x.agent.in_session && session == x.agent.durable.session) (number == suc x.agent.applied) next
+    last = and_parts (x.agent.in_session && session == x.agent.durable.session) (number == suc x.agent.applied) next
 
     first : (x.agent.in_session ≡ true) × ((session == x.agent.durable.session) ≡ true)
-    first = both_true x.agent.in_session (session == x.agent.durable.session) last.0
+    first = and_parts x.agent.in_session (session == x.agent.durable.session) last.0
 launch_anew x place session number (Kill key) new e next = refl
 launch_anew x place session number (Ack key k) new e next = refl
 launch_anew x place session number (EndFramework framework) new e next = refl
@@ -77,7 +78,7 @@ one_in_order cs to place y f e x found h = by (bytes_eq to.agent x.agent.durable
     by : (b : Bool) → bytes_eq to.agent x.agent.durable.name ≡ b → is_in_order x.agent (Mail to) ≡ true
     by false n = rw n refl
     by true n = rw n (
-        let name : to.agent ≡ x.side.name = bytes_same to.agent x.agent.durable.name n ∙ h.0 in
+        let name : to.agent ≡ x.side.name = bytes_eq-is to.agent x.agent.durable.name n ∙ h.0 in
         let is : y ≡ x = some_same y x (sym f ∙ (ap (λ m. channel_at m cs) name ∙ found)) in
         mail_in_order x place to.mail h.1 (subst (λ (z : Channel). slice_get z.to_agent place ≡ Some to.mail) is e))
 
@@ -99,7 +100,7 @@ Ready next cs c = MeetsPremises next cs c × ChannelOk Rises MailRises c
 others_apart : (agent : List ℕ) (tasks : List Booked) (x : Channel) (cs : List Channel) → x.side.name ≡ agent → Each (λ d. d.side.name ≢ x.side.name → Each (λ t. Each (λ b. b.job.key ≢ t.job.key) d.side.booked) tasks) cs → Each (λ s. bytes_eq s.name agent ≡ false → AreApart tasks s) (sides_of cs)
 others_apart agent tasks x [] name h = tt
 others_apart agent tasks x (d ∷ ds) name h =
-    ((λ other. h.0 (λ e. let same : bytes_eq d.side.name agent ≡ true = ap (λ n. bytes_eq n agent) (e ∙ name) ∙ bytes_refl agent in let n : true ≡ false = sym same ∙ other in cc)), others_apart agent tasks x ds name h.1)
+    ((λ other. h.0 (λ e. let same : bytes_eq d.side.name agent ≡ true = ap (λ n. bytes_eq n agent) (e ∙ name) ∙ bytes_eq-refl agent in let n : true ≡ false = sym same ∙ other in cc)), others_apart agent tasks x ds name h.1)
 
 mail_fits : (run : Run) (agent : List ℕ) (cs : List Channel) (x : Channel) (place : ℕ) (mail : AgentMail) → x.side.name ≡ agent → Ready run.next_key cs x → slice_get x.to_master place ≡ Some mail → MailFitsAt run agent mail (sides_of cs)
 mail_fits run agent cs x place (Report session number tasks total) name ready e = (

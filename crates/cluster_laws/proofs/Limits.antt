@@ -32,11 +32,13 @@ use Rattle.cluster_laws.specs.Items.{item_of}
 use Rattle.cluster_laws.specs.declared.item.Item.TheVariants as items
 use Rattle.cluster_safe.proofs.Placed.{each_put}
 use Rattle.cluster_laws.specs.Premises.{AreRecorded, IsRecorded}
-use Rattle.cluster_laws.proofs.Lists.{both_true, each_all, each_at, each_both, each_filter, each_flat, each_map, each_mapped}
+use Rattle.cluster_laws.proofs.Lists.{each_all, each_flat, each_mapped}
 use Rattle.cluster_laws.proofs.Found.{found_has}
 use Rattle.cluster_laws.proofs.Agents.{AllOk, all_if, starts_ok, Rules, ChannelOk, WorldOk, world_ok, opened_ok}
 use Rattle.cluster_laws.proofs.Histories.{reached}
 use Rattle.cluster_laws.proofs.Posts.{up_is}
+use Rattle.names_core.proofs.Lists.{each-filter, each-map, each_at, each_both}
+use Rattle.std.proofs.lemmas.Bool.{and_parts, not-true}
 
 -- at most so many updates, and one less before the end
 abbrev pub IsWithin : RecordedTask → Type 0
@@ -56,10 +58,6 @@ none_of p (t ∷ ts) h = by (p t) refl h (none_of p ts)
     by : (b : Bool) → p t ≡ b → list_any p (t ∷ ts) ≡ false → (list_any p ts ≡ false → Each (λ u. p u ≡ false) ts) → Each (λ u. p u ≡ false) (t ∷ ts)
     by true e k rest = absurd (let no : true ≡ false = rw e at k in cc)
     by false e k rest = (e, rest (rw e at k))
-
-not_true : (b : Bool) → not b ≡ true → b ≡ false
-not_true true e = absurd cc
-not_true false e = refl
 
 -- updates
 
@@ -83,19 +81,19 @@ pushed_within state t h open_one place = by (is_terminal state) refl
 stated_within : (key : Numbered) (state : TaskState) (t : RecordedTask) → IsWithin t → (is_task key t ≡ true → is_terminal state ≡ false → is_full t.updates ≡ false) → IsWithin (stated key state t)
 stated_within key state t h place =
     cond_both (is_task key t && not (has_ended t)) (record { job = t.job; offers = t.offers; updates = pushed state t.updates }) t IsWithin
-    (λ e. let b = both_true (is_task key t) (not (has_ended t)) e in pushed_within state t h (not_true (has_ended t) b.1) (place b.0)) (λ e. h)
+    (λ e. let b = and_parts (is_task key t) (not (has_ended t)) e in pushed_within state t h (not-true (has_ended t) b.1) (place b.0)) (λ e. h)
 
 acknowledged_within : (key : Numbered) (k : ℕ) (t : RecordedTask) → IsWithin t → IsWithin (acknowledged key k t)
 acknowledged_within key k t h = cond_both (is_task key t && is_front k t.updates) (record { job = t.job; offers = t.offers; updates = acknowledged_one t.updates }) t IsWithin (λ e. h) (λ e. h)
 
 mapped_within : (f : RecordedTask → RecordedTask) → ((t : RecordedTask) → IsWithin t → IsWithin (f t)) → (ts : List RecordedTask) → AreWithin ts → AreWithin (map f ts)
-mapped_within f g ts h = each_mapped IsWithin f ts (each_map IsWithin (λ t. IsWithin (f t)) g ts h)
+mapped_within f g ts h = each_mapped IsWithin f ts (each-map IsWithin (λ t. IsWithin (f t)) g ts h)
 
 command_within : (command : Command) (ts : List RecordedTask) → AreWithin ts → AreWithin (tasks_after command ts)
 command_within (Launch job offers) ts h = each_put IsWithin (launched_task job offers) ts (omega arith, λ n. omega arith) h
 command_within (Kill key) ts h = mapped_within (stated key Killed) (λ t w. stated_within key Killed t w (λ e f. absurd cc)) ts h
-command_within (Ack key k) ts h = each_filter IsWithin (λ t. not (is_done t.updates)) (map (acknowledged key k) ts) (mapped_within (acknowledged key k) (acknowledged_within key k) ts h)
-command_within (EndFramework framework) ts h = each_filter IsWithin (λ t. not (same t.job.framework framework)) ts h
+command_within (Ack key k) ts h = each-filter IsWithin (λ t. not (is_done t.updates)) (map (acknowledged key k) ts) (mapped_within (acknowledged key k) (acknowledged_within key k) ts h)
+command_within (EndFramework framework) ts h = each-filter IsWithin (λ t. not (same t.job.framework framework)) ts h
 
 -- mails
 
@@ -113,7 +111,7 @@ fronts_fit : (a : Agent) → AreWithin a.durable.tasks → Each FitsRecord (fron
 fronts_fit a h = cond_both a.in_session (flat_map (front_of a.durable.session) a.durable.tasks) [] (Each FitsRecord) (λ e. all_fronts a.durable.session a.durable.tasks h) (λ e. tt)
 
 front_at_fits : (key : Numbered) (a : Agent) → AreWithin a.durable.tasks → Each FitsRecord (front_at key a)
-front_at_fits key a h = all_fronts a.durable.session (filter (is_task key) a.durable.tasks) (each_filter IsWithin (is_task key) a.durable.tasks h)
+front_at_fits key a h = all_fronts a.durable.session (filter (is_task key) a.durable.tasks) (each-filter IsWithin (is_task key) a.durable.tasks h)
 
 -- the rules of an agent
 
@@ -171,7 +169,7 @@ executed_within key state ts e h = each_mapped IsWithin (stated key state) ts (e
     places true f = each_all (λ t. is_terminal state ≡ false → (is_task key t && is_full t.updates) ≡ false) (λ t g. absurd cc) ts
     places false f =
         let none : list_any (λ t. is_task key t && is_full t.updates) ts ≡ false = rw f at e in
-        each_map (λ t. (is_task key t && is_full t.updates) ≡ false) (λ t. is_terminal state ≡ false → (is_task key t && is_full t.updates) ≡ false) (λ t n g. n) ts (none_of (λ t. is_task key t && is_full t.updates) ts none)
+        each-map (λ t. (is_task key t && is_full t.updates) ≡ false) (λ t. is_terminal state ≡ false → (is_task key t && is_full t.updates) ≡ false) (λ t n g. n) ts (none_of (λ t. is_task key t && is_full t.updates) ts none)
 
 executes_good : (a : Agent) (key : Numbered) (state : TaskState) → AreWithin a.durable.tasks → AllOk Good (executes a key state)
 executes_good a key state h =
@@ -207,7 +205,7 @@ limits_kept = record {
 -- the opening
 
 recorded_within : (t : RecordedTask) → are_updates t.updates.states t.updates.acknowledged ≡ true → IsWithin t
-recorded_within t e = by (list_any is_terminal t.updates.states) refl (both_true (ends_last t.updates.states && nat_le t.updates.acknowledged (length t.updates.states)) (nat_le (length t.updates.states) (if list_any is_terminal t.updates.states then 4096 else 4095)) e).1
+recorded_within t e = by (list_any is_terminal t.updates.states) refl (and_parts (ends_last t.updates.states && nat_le t.updates.acknowledged (length t.updates.states)) (nat_le (length t.updates.states) (if list_any is_terminal t.updates.states then 4096 else 4095)) e).1
   where
     by : (b : Bool) → list_any is_terminal t.updates.states ≡ b → nat_le (length t.updates.states) (if list_any is_terminal t.updates.states then 4096 else 4095) ≡ true → IsWithin t
     by true ended le =
@@ -220,7 +218,7 @@ recorded_within t e = by (list_any is_terminal t.updates.states) refl (both_true
         (omega arith, λ n. few)
 
 all_recorded : (records : List RecordParts) → AreRecorded records → Each (λ (d : RecordParts). AreWithin d.tasks) records
-all_recorded records h = each_map IsRecorded (λ (d : RecordParts). AreWithin d.tasks) (λ d r. each_map (λ t. are_updates t.updates.states t.updates.acknowledged ≡ true) IsWithin recorded_within d.tasks r.updates) records h
+all_recorded records h = each-map IsRecorded (λ (d : RecordParts). AreWithin d.tasks) (λ d r. each-map (λ t. are_updates t.updates.states t.updates.acknowledged ≡ true) IsWithin recorded_within d.tasks r.updates) records h
 
 pub history_roomy : (setup : Setup) (records : List RecordParts) (steps : List Marked) → AreRecorded records → WorldOk Roomy FitsRecord (history setup records steps).state.world
 history_roomy setup records steps h = reached (WorldOk Roomy FitsRecord) (world_ok Roomy FitsRecord limits_kept) setup records steps (opened_ok Roomy FitsRecord records (all_recorded records h))

@@ -21,9 +21,12 @@ use Rattle.cluster_model.specs.Openings.{NamesOnce}
 use Rattle.cluster_model.specs.Steps.{Setup, posts_in, sent_in, sent_between, posts_between, sent_by, posts_by, done, happening, happening_of, effect_of, hello_to, greets_all, master_stops, master_falls, new_master_falls, agent_falls, open_cluster, streams_after}
 use Rattle.cluster_laws.specs.Items.{names_of}
 use Rattle.cluster_laws.specs.Parts.{part_of, parts_of, recovered_part, IsSilent, from_agent, greeting, anew, next_master}
-use Rattle.cluster_laws.proofs.Lists.{each_at, bytes_refl, bytes_differ, cons_same, append_same, drop_all}
+use Rattle.cluster_laws.proofs.Lists.{cons_same, append_same}
 use Rattle.cluster_laws.proofs.Sides.{side_name, received_name}
 use Rattle.cluster_laws.proofs.Grown.{agent_itself}
+use Rattle.cluster_model.proofs.Chains.{none_between, none_in, sides_mapped}
+use Rattle.names_core.proofs.Lists.{bytes_differ, bytes_eq-refl, each_at}
+use Rattle.std.proofs.Math.Seq.{drop-append_seam, drop-length}
 
 -- the master's happenings
 
@@ -139,7 +142,7 @@ pub at_its_place : (agent : List ℕ) (step : ChannelStep) (run : Run) (cs : Lis
 at_its_place agent step run [] place x once e name = absurd cc
 at_its_place agent step run (c ∷ cs) zero x once e name =
     let is : c ≡ x = cc in
-    let test : bytes_eq c.side.name agent ≡ true = ap (λ n. bytes_eq c.side.name n) (sym (ap (λ (y : Channel). y.side.name) is ∙ name)) ∙ bytes_refl c.side.name in
+    let test : bytes_eq c.side.name agent ≡ true = ap (λ n. bytes_eq c.side.name n) (sym (ap (λ (y : Channel). y.side.name) is ∙ name)) ∙ bytes_eq-refl c.side.name in
     rw test (ap (λ (y : Channel). (happens run y step).channel ∷ cs) is)
 at_its_place agent step run (c ∷ cs) (suc place) x once e name =
     let rest = at_its_place agent step run cs place x once.1 e name in
@@ -163,19 +166,8 @@ stepped_parts c verdict agent step place x once e name = ap parts_of (at_its_pla
 
 -- what an agent's step sends
 
-drop_itself : {A : Type 0} (xs : List A) → drop (length xs) xs ≡ []
-drop_itself [] = refl
-drop_itself (x ∷ xs) = drop_itself xs
-
-none_in : (c : Channel) → sent_in c c ≡ []
-none_in c = rw (drop_itself c.to_agent, drop_itself c.to_master) refl
-
-none_between : (cs : List Channel) → sent_between cs cs ≡ []
-none_between [] = refl
-none_between (c ∷ cs) = rw (none_in c) (none_between cs)
-
 quiet_in : (c d : Channel) → d.to_agent ≡ c.to_agent → d.to_master ≡ c.to_master → sent_in c d ≡ []
-quiet_in c d e f = rw (e, f) (rw (drop_itself c.to_agent, drop_itself c.to_master) refl)
+quiet_in c d e f = rw (e, f) (rw (drop-length c.to_agent, drop-length c.to_master) refl)
 
 drawn_up : (c : Channel) (o : Option Draft) (r : Result Draft AgentRefusal) → (drawn c o r).to_master ≡ c.to_master
 drawn_up c (Some old) r = refl
@@ -216,7 +208,7 @@ between_set (c ∷ cs) zero x y e =
 between_set (c ∷ cs) (suc place) x y e = append_same (sent_in c c) [] (sent_between cs (slice_set cs place y)) (sent_in x y) (none_in c) (between_set cs place x y e)
 
 adopted_in : (x : Channel) (d : Draft) → sent_in x (adopted x (Some d)) ≡ map (λ mail. MailToMaster (record { agent = x.side.name; mail = mail })) d.mails
-adopted_in x d = rw (drop_itself x.to_agent, drop_all x.to_master d.mails) refl
+adopted_in x d = rw (drop-length x.to_agent, drop-append_seam x.to_master d.mails) refl
 
 pub commit_sends : (c : Cluster) (verdict : Verdict) (agent : List ℕ) (place : ℕ) (x : Channel) (d : Draft) → NamesOnce (names_of c.world.channels) → slice_get c.world.channels place ≡ Some x → x.side.name ≡ agent → x.draft ≡ Some d →
     (done c (happening c verdict (At agent (ByAgent Adopt) ∷ []))).outputs.sent ≡ map (from_agent agent) d.mails
@@ -261,7 +253,7 @@ none_sent (c ∷ cs) = append_same (sent_in c (with_side restarted c)) [] (sent_
 
 none_posted : (cs : List Channel) → posts_between cs (map (with_side restarted) cs) ≡ []
 none_posted [] = refl
-none_posted (c ∷ cs) = append_same (posts_in c (with_side restarted c)) [] (posts_between cs (map (with_side restarted) cs)) [] (rw (drop_itself c.to_agent, drop_itself c.to_master) refl) (none_posted cs)
+none_posted (c ∷ cs) = append_same (posts_in c (with_side restarted c)) [] (posts_between cs (map (with_side restarted) cs)) [] (rw (drop-length c.to_agent, drop-length c.to_master) refl) (none_posted cs)
 
 anew_after : (c : Cluster) → (done c (record (happening c Fine (Restart ∷ map hello_to c.world.channels)) { registers = new_registers })).after ≡ (done (anew c) (greets_all (anew c))).after
 anew_after c = ap (make (map hello_to c.world.channels)) (none_posted c.world.channels) ∙ ap (λ hs. make hs []) (sym (hellos_again c.world.channels))
@@ -285,10 +277,6 @@ anew_sent c = append_same (sent_between c.world.channels (map (with_side restart
 pub stops_anew : (c : Cluster) → nat_lt c.world.run.number last_run ≡ true →
     ((done c (master_stops c)).after ≡ (done (anew c) (greets_all (anew c))).after) × ((done c (master_stops c)).outputs.sent ≡ (done (anew c) (greets_all (anew c))).outputs.sent)
 stops_anew c test = rw test (anew_after c, anew_sent c)
-
-sides_mapped : (f : Side → Side) (cs : List Channel) → sides_of (map (with_side f) cs) ≡ map f (sides_of cs)
-sides_mapped f [] = refl
-sides_mapped f (c ∷ cs) = ap (λ ss. f c.side ∷ ss) (sides_mapped f cs)
 
 pub anew_master : (c : Cluster) → master_of (anew c) ≡ next_master (master_of c)
 anew_master c = ap (λ ss. record { run = new_run (1 + c.world.run.number); sides = ss; registers = new_registers }) (sides_mapped restarted c.world.channels)

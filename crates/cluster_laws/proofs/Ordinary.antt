@@ -21,7 +21,7 @@ use Rattle.cluster_model.specs.Calls.{frameworks_limit, to_list, subscribed, rem
 use Rattle.cluster_model.specs.Mails.{judged, rescinds, loses, is_to_end, session_opens, goes_with, mailed_as, mail_effect, ticks, ticked, agent_lost, hung_up_by, hung_up}
 use Rattle.cluster_model.specs.Rounds.{round, allocated}
 use Rattle.cluster_laws.specs.Runs.{IsPlain, OpensNext}
-use Rattle.cluster_laws.proofs.Lists.{each_append}
+use Rattle.names_core.proofs.Lists.{each-append}
 
 pub record Ordinary (m : Master) (d : MasterEffect) : Type 0 where
   pub moves : Each IsPlain d.moves
@@ -66,7 +66,7 @@ known_too m stream None doing h = refuses m NoSuchFramework
 known_too m stream (Some f) doing h = if_ordinary m (is_torn m f.id) (refused m NoSuchFramework) (on_its_stream m stream f.stream (doing f)) (refuses m NoSuchFramework) (on_stream_too m stream f.stream (doing f) (h f))
 
 tears_down : (m : Master) (f : Framework) → Ordinary m (on_teardown m f)
-tears_down m f = if_ordinary m (list_any (λ s. not (has_numbers 1 s)) (sides_with_tasks m f.id)) (refused m LimitExceeded) torn (refuses m LimitExceeded) (plain m torn (each_append IsPlain (withdraws (is_of f.id) m) (TearDownAll f.id ∷ map (λ s. AtSide s.name (SendEnd f.id)) (sides_with_tasks m f.id)) (withdraws_plain (is_of f.id) m) (tt, mapped_plain (λ (s : Side). AtSide s.name (SendEnd f.id)) (λ s. tt) (sides_with_tasks m f.id))) refl refl)
+tears_down m f = if_ordinary m (list_any (λ s. not (has_numbers 1 s)) (sides_with_tasks m f.id)) (refused m LimitExceeded) torn (refuses m LimitExceeded) (plain m torn (each-append IsPlain (withdraws (is_of f.id) m) (TearDownAll f.id ∷ map (λ s. AtSide s.name (SendEnd f.id)) (sides_with_tasks m f.id)) (withdraws_plain (is_of f.id) m) (tt, mapped_plain (λ (s : Side). AtSide s.name (SendEnd f.id)) (λ s. tt) (sides_with_tasks m f.id))) refl refl)
   where
     torn : MasterEffect
     torn = record { refusal = None; moves = withdraws (is_of f.id) m ++ TearDownAll f.id ∷ map (λ s. AtSide s.name (SendEnd f.id)) (sides_with_tasks m f.id); events = []; opens = []; closes = to_list f.stream; registers = with_framework m.registers (record f { stream = None }) }

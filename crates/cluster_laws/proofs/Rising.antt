@@ -24,13 +24,14 @@ use Rattle.cluster_model.specs.Agents.{Agent, Draft, has_ended, is_task, state_a
 use Rattle.cluster_model.specs.Channels.{is_own}
 use Rattle.cluster_model.specs.Steps.{Setup, Marked, history}
 use Rattle.agent_core.specs.Records.{keys_rise, rise_behind}
-use Rattle.agent_core.proofs.Places.{before_both}
 use Rattle.agent_core.proofs.Recorded.{command_rises, stated_rises}
 use Rattle.cluster_model.specs.Fits.{KeysRise}
 use Rattle.cluster_laws.specs.Premises.{AreRecorded, IsRecorded}
-use Rattle.cluster_laws.proofs.Lists.{each_all, each_flat, each_map}
+use Rattle.cluster_laws.proofs.Lists.{each_all, each_flat}
 use Rattle.cluster_laws.proofs.Agents.{AllOk, all_if, starts_ok, Rules, WorldOk, world_ok, opened_ok}
 use Rattle.cluster_laws.proofs.Histories.{reached}
+use Rattle.names_core.proofs.IdOrder.{before_both}
+use Rattle.names_core.proofs.Lists.{each-map}
 
 abbrev pub Rises : List ℕ → Agent → Type 0
 Rises name a = keys_rise a.durable.tasks ≡ true
@@ -143,4 +144,4 @@ rising_kept = record {
 
 pub history_rises : (setup : Setup) (records : List RecordParts) (steps : List Marked) → AreRecorded records → WorldOk Rises MailRises (history setup records steps).state.world
 history_rises setup records steps h =
-    reached (WorldOk Rises MailRises) (world_ok Rises MailRises rising_kept) setup records steps (opened_ok Rises MailRises records (each_map IsRecorded (λ (d : RecordParts). keys_rise d.tasks ≡ true) (λ d r. r.rising) records h))
+    reached (WorldOk Rises MailRises) (world_ok Rises MailRises rising_kept) setup records steps (opened_ok Rises MailRises records (each-map IsRecorded (λ (d : RecordParts). keys_rise d.tasks ≡ true) (λ d r. r.rising) records h))

@@ -34,9 +34,11 @@ use Rattle.messages.specs.declared.steps.Verdict.TheVariants.{Ok as Fine, AgentR
 use Rattle.cluster_model.specs.Steps as steps
 use Rattle.cluster_model.specs.Steps.{Setup, Done, done, does, happening, effect_of, happening_of, master_does, master_receives, channel_of, delivers_up, delivers, post_at, with_tick, ticks_at, stream_at, hangs_up, loses_agent, hello_to, drafts, draws_mail_at, draws_mail, prepares, commits, up_again, stops, with_master, at_channel, is_fallen, if_up, by_draft, without_draft, with_draft, takes_one, takes_event, takes, answer, master_falls, new_master_falls, fallen_too, agent_falls, instead, fallen_answer, Marked, step_marked, receives, streams_after, History, opened_over, opening, extended, extend_all, history}
 use Rattle.cluster_laws.specs.Runs.{SameRun, OpensNext, ids_of, AreRising}
-use Rattle.cluster_laws.proofs.Lists.{each_append, each_map, cons_same}
+use Rattle.cluster_laws.proofs.Lists.{cons_same}
 use Rattle.cluster_laws.proofs.Ordinary.{Ordinary, called_ordinary, allocated_ordinary, ticked_ordinary, lost_ordinary, hung_ordinary, mailed_ordinary}
 use Rattle.cluster_laws.proofs.WithinRuns.{IsWithinRun, worlds_run, moves_within}
+use Rattle.cluster_laws.proofs.Shared.{received_ids}
+use Rattle.names_core.proofs.Lists.{each-append, each-map}
 
 -- what holds of the streams of a cluster
 
@@ -46,10 +48,6 @@ pub record StreamsOk (ids : List Numbered) (run : Run) (last : ℕ) : Type 0 whe
   pub given : run.serves ≡ true → Each (λ id. id.run ≡ run.number → id.n ≤ last) ids
 
 -- ids
-
-received_ids : (told : List StreamEvent) (ss : List Stream) → ids_of (map (receives told) ss) ≡ ids_of ss
-received_ids told [] = refl
-received_ids told (s ∷ ss) = ap (λ ids. s.id ∷ ids) (received_ids told ss)
 
 new_ids : (opens : List Numbered) → ids_of (map steps.new_stream opens) ≡ opens
 new_ids [] = refl
@@ -66,7 +64,7 @@ taken_ids id (s ∷ ss) = cons_same (takes_one id s).id s.id (ids_of (map (takes
 
 rising_more : (ids : List Numbered) (id : Numbered) → AreRising ids → Each (λ old. before old id ≡ true) ids → AreRising (ids ++ id ∷ [])
 rising_more [] id r h = (tt, tt)
-rising_more (x ∷ ids) id r h = (each_append (λ later. before x later ≡ true) ids (id ∷ []) r.0 (h.0, tt), rising_more ids id r.1 h.1)
+rising_more (x ∷ ids) id r h = (each-append (λ later. before x later ≡ true) ids (id ∷ []) r.0 (h.0, tt), rising_more ids id r.1 h.1)
 
 stands_before : (run : Run) (last : ℕ) (old : Numbered) → old.run ≤ run.number → (old.run ≡ run.number → old.n ≤ last) → before old (record { run = run.number; n = suc last }) ≡ true
 stands_before run last old le h = by (nat_lt old.run run.number) refl
@@ -91,8 +89,8 @@ stays ids old new last same ok = record {
 opens_one : (ids : List Numbered) (old new : Run) (last : ℕ) → old.serves ≡ true → SameRun old new → StreamsOk ids old last → StreamsOk (ids ++ record { run = old.number; n = suc last } ∷ []) new (suc last)
 opens_one ids old new last serves same ok = stays (ids ++ id ∷ []) old new (suc last) same (record {
   rising = rising_more ids id ok.rising (befores ids ok.runs (ok.given serves));
-  runs = each_append (λ x. x.run ≤ old.number) ids (id ∷ []) ok.runs (own, tt);
-  given = λ e. each_append (λ x. x.run ≡ old.number → x.n ≤ suc last) ids (id ∷ []) (each_map (λ x. x.run ≡ old.number → x.n ≤ last) (λ x. x.run ≡ old.number → x.n ≤ suc last) (λ x h k. wider x (h k)) ids (ok.given serves)) ((λ k. most), tt);
+  runs = each-append (λ x. x.run ≤ old.number) ids (id ∷ []) ok.runs (own, tt);
+  given = λ e. each-append (λ x. x.run ≡ old.number → x.n ≤ suc last) ids (id ∷ []) (each-map (λ x. x.run ≡ old.number → x.n ≤ last) (λ x. x.run ≡ old.number → x.n ≤ suc last) (λ x h k. wider x (h k)) ids (ok.given serves)) ((λ k. most), tt);
 })
   where
     id : Numbered
@@ -114,14 +112,14 @@ opens_one ids old new last serves same ok = stays (ids ++ id ∷ []) old new (su
 later_run : (ids : List Numbered) (old new : Run) (last any : ℕ) → new.number ≡ suc old.number → StreamsOk ids old last → StreamsOk ids new any
 later_run ids old new last any e ok = record {
   rising = ok.rising;
-  runs = each_map (λ (id : Numbered). id.run ≤ old.number) (λ id. id.run ≤ new.number) (λ id le. omega arith) ids ok.runs;
-  given = λ s. each_map (λ (id : Numbered). id.run ≤ old.number) (λ id. id.run ≡ new.number → id.n ≤ any) (λ id le k. absurd (omega arith)) ids ok.runs;
+  runs = each-map (λ (id : Numbered). id.run ≤ old.number) (λ id. id.run ≤ new.number) (λ id le. omega arith) ids ok.runs;
+  given = λ s. each-map (λ (id : Numbered). id.run ≤ old.number) (λ id. id.run ≡ new.number → id.n ≤ any) (λ id le k. absurd (omega arith)) ids ok.runs;
 }
 
 goes_down : (ids : List Numbered) (old new : Run) (last any : ℕ) → old.number ≤ new.number → new.serves ≡ false → StreamsOk ids old last → StreamsOk ids new any
 goes_down ids old new last any le down ok = record {
   rising = ok.rising;
-  runs = each_map (λ (id : Numbered). id.run ≤ old.number) (λ id. id.run ≤ new.number) (λ id h. omega arith) ids ok.runs;
+  runs = each-map (λ (id : Numbered). id.run ≤ old.number) (λ id. id.run ≤ new.number) (λ id h. omega arith) ids ok.runs;
   given = λ s. absurd cc;
 }
 
@@ -143,7 +141,7 @@ master_streamed c first d h ordinary serves ok = by ordinary.opens
     new = (after_all (first ++ map happening_of d.moves) c.world).run
 
     same : SameRun c.world.run new
-    same = worlds_run (first ++ map happening_of d.moves) c.world (each_append IsWithinRun first (map happening_of d.moves) h (moves_within d.moves ordinary.moves))
+    same = worlds_run (first ++ map happening_of d.moves) c.world (each-append IsWithinRun first (map happening_of d.moves) h (moves_within d.moves ordinary.moves))
 
     by : OpensNext (master_of c) d → ClusterOk (done c (effect_of first d)).after
     by (inl n) = ids_with c d.opens [] d.events new c.registers.last_stream d.registers.last_stream n.0 n.1

@@ -19,7 +19,8 @@ use Rattle.cluster_model.specs.Sides.{Run, Side, Sending, SideStep, MakeOffer, W
 use Rattle.cluster_model.specs.Masters.{AtSide, HaltAll, Move, Moved, RestartAll, TearDownAll, at_side, at_this_side, move, move_all, past_side}
 use Rattle.cluster_model.specs.Mails.{receive_at}
 use Rattle.cluster_model.specs.Fits.{BookedBefore, KeysBefore, MailFitsAt}
-use Rattle.cluster_model.proofs.Receiving.{received_job}
+use Rattle.cluster_model.proofs.Chains.{received_job}
+use Rattle.std.proofs.lemmas.Bool.{and_parts}
 
 -- the next key is the same, or one behind it
 abbrev pub Goes : Numbered → Numbered → Type 0
@@ -59,10 +60,6 @@ one_more : (next : Numbered) (bs : List Booked) (j : Job) → KeysBefore next bs
 one_more next [] j h e = (let t : before j.key (following j.key) ≡ true = grind (arith, nat_tests) in t, tt)
 one_more next (b ∷ bs) j h e = (later b.job.key next (following j.key) (next_goes next j.key e) h.0, one_more next bs j h.1 e)
 
-both_true : (x y : Bool) → (x && y) ≡ true → (x ≡ true) × (y ≡ true)
-both_true true y e = (refl, e)
-both_true false y e = absurd cc
-
 issued_so : (x : Sending) (command : Command) → ((issue x command).run ≡ x.run) × ((issue x command).side.booked ≡ x.side.booked)
 issued_so x command = by x.side.is_open
   where
@@ -87,7 +84,7 @@ launched_as framework ids x job = record { used = job.resources ++ x.used; sendi
 
 launched_one : (next framework : Numbered) (ids : List Numbered) (budget : List Row) (x : Launching) (job : Job) → may_launch x.sending.run framework budget x.used job ≡ true → Kept next x.sending → Kept next (launched_as framework ids x job).sending
 launched_one next framework ids budget x job may h =
-    let is : same job.key x.sending.run.next_key ≡ true = (both_true (same job.key x.sending.run.next_key) (same job.framework framework) (both_true (same job.key x.sending.run.next_key && same job.framework framework) (covers budget (job.resources ++ x.used)) may).0).0 in
+    let is : same job.key x.sending.run.next_key ≡ true = (and_parts (same job.key x.sending.run.next_key) (same job.framework framework) (and_parts (same job.key x.sending.run.next_key && same job.framework framework) (covers budget (job.resources ++ x.used)) may).0).0 in
     issued_kept next (books x.sending job) (Launch job ids)
     (goes_on next x.sending.run.next_key (following job.key) h.0 (next_goes x.sending.run.next_key job.key is), one_more x.sending.run.next_key x.sending.side.booked job h.1 is)
 

@@ -1,6 +1,7 @@
+pub mod Chains
 pub mod Following
-pub mod Weights
-pub mod Steps
-pub mod Receiving
 pub mod Keying
 pub mod Numbering
+pub mod Receiving
+pub mod Steps
+pub mod Weights

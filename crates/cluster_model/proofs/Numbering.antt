@@ -20,6 +20,8 @@ use Rattle.cluster_model.specs.Fits.{ReceivingKeepsSides, MovesKeepSides, Offers
 use Rattle.cluster_model.proofs.Steps.{moves_keep_fits}
 use Rattle.cluster_model.proofs.Receiving.{receiving_at_keeps_fits}
 use Rattle.cluster_model.proofs.Keying.{moves_keep_keys, receiving_keeps_keys}
+use Rattle.names_core.proofs.IdOrder.{same-is}
+use Rattle.std.proofs.lemmas.Bool.{and_parts}
 
 abbrev Below : Numbered → List Offer → Type 0
 Below next os = AllByRecursion (λ o. before o.id next ≡ true) os
@@ -55,16 +57,6 @@ one_more : (next : Numbered) (os : List Offer) (o : Offer) → Below next os →
 one_more next [] o h e = (let t : before o.id (following o.id) ≡ true = grind (arith, nat_tests) in t, tt)
 one_more next (p ∷ os) o h e = (let b : before p.id next ≡ true = h.0 in let t : before p.id (following o.id) ≡ true = grind (arith, nat_tests) in t, one_more next os o h.1 e)
 
-same_is : (a b : Numbered) → same a b ≡ true → a ≡ b
-same_is a b h =
-    let n : a.n ≡ b.n = grind (arith, nat_tests) in
-    let run : a.run ≡ b.run = grind (arith, nat_tests) in
-    let e : record { run = a.run; n = a.n } ≡ b = rw (n, run) refl in e
-
-both_true : (x y : Bool) → (x && y) ≡ true → (x ≡ true) × (y ≡ true)
-both_true true y e = (refl, e)
-both_true false y e = absurd cc
-
 -- what a step at an agent makes of its offers and of the next id
 abbrev Kept : Run → Side → Sending → Type 0
 Kept run s x = Goes run.next_offer x.run.next_offer × Below x.run.next_offer x.side.offers
@@ -92,8 +84,8 @@ offered_kept run s o h = by (may_offer run s o) refl
   where
     by : (b : Bool) → may_offer run s o ≡ b → Kept run s (cond b (sends_nothing (record run { next_offer = following o.id }) (record s { offers = s.offers ++ o ∷ [] })) (sends_nothing run s))
     by true e =
-        let is : same o.id run.next_offer ≡ true = (both_true s.is_open (same o.id run.next_offer) (both_true (s.is_open && same o.id run.next_offer) (covers s.total (o.resources ++ taken s)) e).0).1 in
-        (inr (ap following (same_is o.id run.next_offer is)), one_more run.next_offer s.offers o h is)
+        let is : same o.id run.next_offer ≡ true = (and_parts s.is_open (same o.id run.next_offer) (and_parts (s.is_open && same o.id run.next_offer) (covers s.total (o.resources ++ taken s)) e).0).1 in
+        (inr (ap following (same-is o.id run.next_offer is)), one_more run.next_offer s.offers o h is)
     by false e = (inl refl, h)
 
 abbrev launched_as : Numbered → List Numbered → Launching → Job → Launching

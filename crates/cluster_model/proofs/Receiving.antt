@@ -13,6 +13,7 @@ use Rattle.cluster_model.specs.Sides.{Run, Side, counts, forget, forget_all, job
 use Rattle.cluster_model.specs.Mails.{receive_at}
 use Rattle.cluster_model.specs.Fits.{AllFitTotals, FitsTotal, MailFits, MailFitsAt, ReceivingAtKeepsFits, ReceivingKeepsFits}
 use Rattle.cluster_model.proofs.Weights.{covered, taken_is, used_fewer, used_less, used_of}
+use Rattle.cluster_model.proofs.Chains.{received_ended, received_job}
 
 -- commands that are applied
 forgotten_less : (name : List ℕ) (ws : List Command) (bs : List Booked) → used_of name (forget_all ws bs) ≤ used_of name bs
@@ -30,24 +31,6 @@ received_as k state ended b = record {
   received = (if nat_le b.received (suc k) then suc k else b.received);
   state = (if nat_le b.received (suc k) then state else b.state);
 }
-
-or_true : (b c : Bool) → b ≡ true → (b || c) ≡ true
-or_true true c e = refl
-or_true false c e = absurd cc
-
-pub received_job : (key : Numbered) (k : ℕ) (state : TaskState) (ended : Bool) (b : Booked) → (received_update key k state ended b).job ≡ b.job
-received_job key k state ended b = by (same b.job.key key)
-  where
-    by : (e : Bool) → (cond e (received_as k state ended b) b).job ≡ b.job
-    by true = refl
-    by false = refl
-
-received_ended : (key : Numbered) (k : ℕ) (state : TaskState) (ended : Bool) (b : Booked) → b.ended ≡ true → (received_update key k state ended b).ended ≡ true
-received_ended key k state ended b is = by (same b.job.key key)
-  where
-    by : (e : Bool) → (cond e (received_as k state ended b) b).ended ≡ true
-    by true = or_true b.ended ended is
-    by false = is
 
 pub receiving_keeps_fits : ReceivingKeepsFits
 receiving_keeps_fits run s (Report session number tasks total) fits h = by (opens run s session number)

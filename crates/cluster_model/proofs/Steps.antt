@@ -15,10 +15,7 @@ use Rattle.cluster_model.specs.Sides.{Run, Side, Sending, SideStep, MakeOffer, W
 use Rattle.cluster_model.specs.Masters.{AtSide, HaltAll, Move, Moved, RestartAll, TearDownAll, at_side, at_this_side, move, past_side}
 use Rattle.cluster_model.specs.Fits.{AllFitTotals, FitsTotal, MovesKeepFits, StepsKeepFits}
 use Rattle.cluster_model.proofs.Weights.{covered, offered_more, offered_split, taken_is, used_more}
-
-both_true : (x y : Bool) → (x && y) ≡ true → (x ≡ true) × (y ≡ true)
-both_true true y e = (refl, e)
-both_true false y e = absurd cc
+use Rattle.std.proofs.lemmas.Bool.{and_parts}
 
 -- a command is issued
 issued_fits : (x : Sending) (command : Command) → FitsTotal x.side → FitsTotal (issue x command).side
@@ -48,7 +45,7 @@ offered_fits : (run : Run) (s : Side) (o : Offer) → FitsTotal s → FitsTotal 
 offered_fits run s o h = by (may_offer run s o) refl
   where
     room : may_offer run s o ≡ true → AtLeast s.total (o.resources ++ taken s)
-    room e = covered s.total (o.resources ++ taken s) (both_true (s.is_open && same o.id run.next_offer) (covers s.total (o.resources ++ taken s)) e).1
+    room e = covered s.total (o.resources ++ taken s) (and_parts (s.is_open && same o.id run.next_offer) (covers s.total (o.resources ++ taken s)) e).1
 
     by : (b : Bool) → may_offer run s o ≡ b → FitsTotal (cond b (sends_nothing (record run { next_offer = following o.id }) (record s { offers = s.offers ++ o ∷ [] })) (sends_nothing run s)).side
     by true e = λ name. omega (arith, room e name, amount-append name o.resources (taken s), taken_is name s, taken_is name (record s { offers = s.offers ++ o ∷ [] }), offered_more name s.offers o)
@@ -95,7 +92,7 @@ launched_fits framework ids budget (job ∷ jobs) x room within = by (may_launch
     by : (b : Bool) → may_launch x.sending.run framework budget x.used job ≡ b → ((y : Launching) → HasRoom budget y → HasWithin budget y → FitsTotal (launch_all framework ids budget jobs y).side)
         → FitsTotal (launch_all framework ids budget jobs (cond b (launched_as framework ids x job) x)).side
     by true e ih = ih (launched_as framework ids x job) (launch_room framework ids budget x job room)
-        (covered budget (job.resources ++ x.used) (both_true (same job.key x.sending.run.next_key && same job.framework framework) (covers budget (job.resources ++ x.used)) e).1)
+        (covered budget (job.resources ++ x.used) (and_parts (same job.key x.sending.run.next_key && same job.framework framework) (covers budget (job.resources ++ x.used)) e).1)
     by false e ih = ih x room within
 
 accepted_fits : (run : Run) (s : Side) (framework : Numbered) (ids : List Numbered) (jobs : List Job) → FitsTotal s → FitsTotal (accepted run s framework ids jobs).side

@@ -34,7 +34,11 @@ use Rattle.cluster_agents.specs.Outcomes.{ends_with}
 use Rattle.cluster_parts.specs.Masters.{Does, Falls, MasterMakes, Settles, item_to, kept_master, sent_to, made_of}
 use Rattle.cluster_agents.specs.declared.outcomes.StepOutcome.{StepOutcome}
 use Rattle.cluster_agents.specs.Moves.{Reached, sending}
-use Rattle.cluster_agents.proofs.Making.{ItemsStand, append_nothing, items_by, marked, quiet_streams}
+use Rattle.cluster_agents.proofs.Making.{ItemsStand, items_by, marked, quiet_streams}
+use Rattle.cluster_model.proofs.Chains.{extend_more}
+use Rattle.cluster_parts.proofs.Shared.{not_serving, same_but, serving, told_so}
+use Rattle.std.proofs.Math.Seq.{drop-length}
+use Rattle.std.proofs.lemmas.List.{append-nil}
 
 pub record MasterLaws : Type 0 where
   pub stand : ItemsStand
@@ -51,27 +55,9 @@ pub record MasterLaws : Type 0 where
 abbrev marks_so : Bool → Step → Marked
 marks_so b s = record { fell = b; step = s }
 
-told_so : (mails : List ToAgent) → map MailToAgent mails ≡ map sent_to mails
-told_so [] = refl
-told_so (m ∷ ms) = ap (λ (xs : List code.Sent). sent_to m ∷ xs) (told_so ms)
-
 kept_so : (calls : List Item) (mails : List ToAgent) → items_sent calls (map MailToAgent mails) ≡ map item_to mails
 kept_so calls [] = refl
 kept_so calls (m ∷ ms) = ap (λ (xs : List Item). item_to m ∷ xs) (kept_so calls ms)
-
-serving : (m : Master) → m.run.serves ≡ true → kept_master m ≡ Some (Some m)
-serving m e = by m.run.serves e
-  where
-    by : (b : Bool) → b ≡ true → (if b then Some (Some m) else None) ≡ Some (Some m)
-    by true f = refl
-    by false f = absurd (let clash : false ≡ true = f in cc)
-
-not_serving : (m : Master) → m.run.serves ≡ false → kept_master m ≡ None
-not_serving m e = by m.run.serves e
-  where
-    by : (b : Bool) → b ≡ false → (if b then Some (Some m) else None) ≡ None
-    by true f = absurd (let clash : true ≡ false = f in cc)
-    by false f = refl
 
 abbrev told_with : List StreamEvent → List Numbered → List code.Sent → Outputs
 told_with events closed sent = record { events = events; closed = closed; sent = sent; taken = None }
@@ -126,7 +112,7 @@ doing_refused more c s moment d refusal items r within stand serves how is = rec
   drafts = refl;
   stands = record {
     as_master = sym (serving (master_of c) serves);
-    as_items = subst (StandIn D.after) (append_nothing items) (items_by more.stand c (marks_so false s) D items r answers stand);
+    as_items = subst (StandIn D.after) (append-nil items) (items_by more.stand c (marks_so false s) D items r answers stand);
     as_streams = ap kept_streams (sym (quiet_streams c.streams));
     within = subst AreWithin (sym (quiet_streams c.streams)) within;
   };
@@ -144,13 +130,9 @@ doing_refused more c s moment d refusal items r within stand serves how is = rec
 
 -- a fall
 
-nothing_behind : {A : Type 0} (xs : List A) → drop (length xs) xs ≡ []
-nothing_behind {A = A} [] = refl
-nothing_behind {A = A} (x ∷ xs) = nothing_behind xs
-
 halt_sends : (cs : List Channel) → sent_between cs (map (with_side halted) cs) ≡ []
 halt_sends [] = refl
-halt_sends (x ∷ cs) = rw (nothing_behind x.to_agent, nothing_behind x.to_master) (halt_sends cs)
+halt_sends (x ∷ cs) = rw (drop-length x.to_agent, drop-length x.to_master) (halt_sends cs)
 
 pub doing_falls : MasterLaws → (c : Cluster) (s : Step) (moment : ℕ) (d : MasterEffect) (items : List Item) → Reached c → AreWithin c.streams → StandIn c items → Does c s moment d →
     MasterMakes c s moment (ends_with verdicts.OutOfMemory) None items (kept_streams c.streams)
@@ -162,7 +144,7 @@ doing_falls more c s moment d items r within stand how = record {
   drafts = refl;
   stands = record {
     as_master = sym (not_serving (master_of D.after) (more.down base));
-    as_items = subst (StandIn D.after) (append_nothing items) (subst (λ (xs : List Sent). StandIn D.after (items ++ items_sent (call_of s) xs)) silent (items_by more.stand c (marks_so true s) D items r answers stand));
+    as_items = subst (StandIn D.after) (append-nil items) (subst (λ (xs : List Sent). StandIn D.after (items ++ items_sent (call_of s) xs)) silent (items_by more.stand c (marks_so true s) D items r answers stand));
     as_streams = ap kept_streams (sym (quiet_streams c.streams));
     within = subst AreWithin (sym (quiet_streams c.streams)) within;
   };
@@ -185,13 +167,6 @@ doing_falls more c s moment d items r within stand how = record {
     silent = ap (λ (xs : List Sent). xs ++ []) (halt_sends c.world.channels)
 
 -- ---- what becomes of the master's answer
-
-same_but : (c : Cluster) (s : Step) (moment : ℕ) (made made2 : StepOutcome) (n n2 : Option (Option Master)) (js js2 : List Item) (ts ts2 : List KeptStream) → made ≡ made2 → n ≡ n2 → js ≡ js2 → ts ≡ ts2 → MasterMakes c s moment made2 n2 js2 ts2 → MasterMakes c s moment made n js ts
-same_but c s moment made made2 n n2 js js2 ts ts2 e f g h x =
-    subst (λ (y : StepOutcome). MasterMakes c s moment y n js ts) (sym e)
-    (subst (λ (y : Option (Option Master)). MasterMakes c s moment made2 y js ts) (sym f)
-    (subst (λ (y : List Item). MasterMakes c s moment made2 n2 y ts) (sym g)
-    (subst (λ (y : List KeptStream). MasterMakes c s moment made2 n2 js2 y) (sym h) x)))
 
 falls_then : MasterLaws → (c : Cluster) (s : Step) (moment : ℕ) (d : MasterEffect) (made : StepOutcome) (n : Option (Option Master)) (items js : List Item) (ts : List KeptStream) → Reached c → AreWithin c.streams → StandIn c items → Does c s moment d → Falls made n items js (kept_streams c.streams) ts → MasterMakes c s moment made n js ts
 falls_then more c s moment d made n items js ts r within stand how f =
@@ -217,15 +192,11 @@ answer_made more c s moment doing (Err (fault.Refused refusal)) after made n ite
 abbrev unfallen : Step → Marked
 unfallen s = record { fell = false; step = s }
 
-pub extended_more : (h : History) (ss : List Marked) (m : Marked) → extend_all h (ss ++ m ∷ []) ≡ extended (extend_all h ss) m.step (step_marked (extend_all h ss).state m)
-extended_more h [] m = refl
-extended_more h (s ∷ ss) m = extended_more (extended h s.step (step_marked h.state s)) ss m
-
 -- the state after a step is reached by one more step
 pub state_then : (c : Cluster) (r : Reached c) (m : Marked) (d : Done) → (if m.fell then fallen_answer c m.step else answer c m.step) ≡ Ok d → (history r.setup r.records (r.steps ++ m ∷ [])).state ≡ d.after
 state_then c r m d e =
     let steps_so : step_marked (history r.setup r.records r.steps).state m ≡ Ok d = subst (λ (x : Cluster). step_marked x m ≡ Ok d) r.is (marked c m d r.room e) in
-    ap (λ (x : History). x.state) (extended_more (opening r.setup r.records) r.steps m) ∙ ap (λ (x : Result Done ClusterFault). (extended (history r.setup r.records r.steps) m.step x).state) steps_so
+    ap (λ (x : History). x.state) (extend_more (opening r.setup r.records) r.steps m) ∙ ap (λ (x : Result Done ClusterFault). (extended (history r.setup r.records r.steps) m.step x).state) steps_so
 
 pub streams_then_rise : MasterLaws → (c : Cluster) (s : Step) (moment : ℕ) (doing : Master → MasterEffect) (answered : Result Outs MasterFault) (after : Option Master) → Reached c → Does c s moment (doing (master_of c)) → Answers answered (Some (master_of c)) after doing →
     IfOk answered (λ outs. AreRising (kept_ids (kept_streams c.streams) ++ outs.opened))

@@ -30,7 +30,8 @@ use Rattle.cluster_agents.specs.Moves.{kept_agents, kept_part, sending}
 use Rattle.cluster_parts.specs.Opening.{Starts, new_master, up_over}
 use Rattle.cluster_agents.specs.declared.outcomes.StepOutcome.{StepOutcome}
 use Rattle.cluster_parts.proofs.Greeting.{GreetLaws, greeted_master, greeting_mails}
-use Rattle.cluster_parts.proofs.Outgoing.{kept_so, told_so}
+use Rattle.cluster_parts.proofs.Outgoing.{kept_so}
+use Rattle.cluster_parts.proofs.Shared.{told_so}
 
 pub record OpenLaws : Type 0 where
   pub greet : GreetLaws

@@ -54,10 +54,13 @@ use Rattle.cluster_parts.specs.Masters.{MasterMakes, StandsFor, item_to, kept_ma
 use Rattle.cluster_agents.specs.Moves.{Reached, Refuses, sending}
 use Rattle.cluster_agents.specs.declared.outcomes.StepOutcome.{StepOutcome}
 use Rattle.cluster_agents.proofs.Committing.{if_it_is_down, if_it_is_up}
-use Rattle.cluster_agents.proofs.Making.{append_nothing, items_by, quiet_streams}
+use Rattle.cluster_agents.proofs.Making.{items_by, quiet_streams}
 use Rattle.cluster_parts.proofs.Mastering.{MasterLaws, serves_if, state_then}
-use Rattle.cluster_parts.proofs.Outgoing.{kept_so, not_serving, serving, sides_send_nothing, told_so}
+use Rattle.cluster_parts.proofs.Outgoing.{kept_so}
 use Rattle.cluster_agents.proofs.Preparing.{item_behind}
+use Rattle.cluster_model.proofs.Chains.{none_sides}
+use Rattle.cluster_parts.proofs.Shared.{not_serving, same_but, serving, told_so}
+use Rattle.std.proofs.lemmas.List.{append-nil}
 
 pub record ReceiveLaws : Type 0 where
   pub more : MasterLaws
@@ -179,7 +182,7 @@ mail_falls laws c number to items r within stand serves come = record {
   drafts = refl;
   stands = record {
     as_master = sym (not_serving (master_of (master_falls c).after) (laws.more.down c));
-    as_items = subst (StandIn (master_falls c).after) (append_nothing items) (subst (λ (xs : List Sent). StandIn (master_falls c).after (items ++ items_sent [] xs)) silent (items_by laws.more.stand c (delivering true number) (master_falls c) items r answers stand));
+    as_items = subst (StandIn (master_falls c).after) (append-nil items) (subst (λ (xs : List Sent). StandIn (master_falls c).after (items ++ items_sent [] xs)) silent (items_by laws.more.stand c (delivering true number) (master_falls c) items r answers stand));
     as_streams = ap kept_streams (sym (quiet_streams c.streams));
     within = subst AreWithin (sym (quiet_streams c.streams)) within;
   };
@@ -193,17 +196,9 @@ mail_falls laws c number to items r within stand serves come = record {
     answers = ap (λ (o : Result Done ClusterFault). instead o (master_falls c)) (it_answers c number to serves come)
 
     silent : (master_falls c).outputs.sent ≡ []
-    silent = ap (λ (xs : List Sent). xs ++ []) (sides_send_nothing halted c.world.channels)
+    silent = ap (λ (xs : List Sent). xs ++ []) (none_sides halted c.world.channels)
 
 -- ---- what becomes of the master's answer
-
--- the same, of equal parts
-same_made : (c : Cluster) (s : Step) (moment : ℕ) (made made2 : StepOutcome) (n n2 : Option (Option Master)) (js js2 : List Item) (ts ts2 : List KeptStream) → made ≡ made2 → n ≡ n2 → js ≡ js2 → ts ≡ ts2 → MasterMakes c s moment made2 n2 js2 ts2 → MasterMakes c s moment made n js ts
-same_made c s moment made made2 n n2 js js2 ts ts2 e f g h x =
-    subst (λ (y : StepOutcome). MasterMakes c s moment y n js ts) (sym e)
-    (subst (λ (y : Option (Option Master)). MasterMakes c s moment made2 y js ts) (sym f)
-    (subst (λ (y : List Item). MasterMakes c s moment made2 n2 y ts) (sym g)
-    (subst (λ (y : List KeptStream). MasterMakes c s moment made2 n2 js2 y) (sym h) x)))
 
 -- a fall is no refusal
 falls_as_refused : (refusal : Option MasterRefusal) → with_refusal refusal (ends_with verdicts.OutOfMemory) ≡ ends_with verdicts.OutOfMemory
@@ -213,14 +208,14 @@ falls_as_refused (Some refusal) = refl
 falls_then : ReceiveLaws → (c : Cluster) (number : ℕ) (to : ToMaster) (made : StepOutcome) (n : Option (Option Master)) (items js : List Item) (ts : List KeptStream) → Reached c → AreWithin c.streams → StandIn c items → c.world.run.serves ≡ true → Comes c number to →
     made ≡ ends_with verdicts.OutOfMemory → n ≡ None → js ≡ items → ts ≡ kept_streams c.streams → MasterMakes c (Deliver number) c.last_tick made n js ts
 falls_then laws c number to made n items js ts r within stand serves come e f g h =
-    same_made c (Deliver number) c.last_tick made (ends_with verdicts.OutOfMemory) n None js items ts (kept_streams c.streams) e f g h (mail_falls laws c number to items r within stand serves come)
+    same_but c (Deliver number) c.last_tick made (ends_with verdicts.OutOfMemory) n None js items ts (kept_streams c.streams) e f g h (mail_falls laws c number to items r within stand serves come)
 
 -- by what the model has it do at the side of the agent's channel
 made_here : ReceiveLaws → (c : Cluster) (number : ℕ) (to : ToMaster) (answered : Result ReceivedMail MasterFault) (after : Option Master) (made : StepOutcome) (n : Option (Option Master)) (items js : List Item) (ts : List KeptStream) →
     Reached c → AreWithin c.streams → StandIn c items → c.world.run.serves ≡ true → Comes c number to → Receives answered (Some (master_of c)) after to.agent to.mail → SettlesReceived answered made (Some after) n items js (kept_streams c.streams) ts →
     MasterMakes c (Deliver number) c.last_tick made n js ts
 made_here laws c number to (Ok h) after made n items js ts r within stand serves come (why, outs, next) (settled, is, inl t) =
-    same_made c (Deliver number) c.last_tick made (with_refusal h.refusal (made_of sent_outs)) n (Some (Some (after_doing received_so d))) js (items ++ map item_to sent_outs.mails) ts (received d.opens d.events (kept_streams c.streams))
+    same_but c (Deliver number) c.last_tick made (with_refusal h.refusal (made_of sent_outs)) n (Some (Some (after_doing received_so d))) js (items ++ map item_to sent_outs.mails) ts (received d.opens d.events (kept_streams c.streams))
     (is ∙ ap (with_refusal h.refusal) (t.is ∙ ap made_of outs_so))
     (t.same_master ∙ ap (λ (m : Option Master). Some m) (next ∙ ap (λ (y : MasterEffect). Some (after_doing received_so y)) doing_so))
     (t.more_items ∙ ap (λ (o : Outs). items ++ map item_to o.mails) outs_so)

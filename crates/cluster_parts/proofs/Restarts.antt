@@ -40,8 +40,11 @@ use Rattle.cluster_parts.specs.Restarting.{Restarts, run_behind}
 use Rattle.cluster_agents.specs.declared.outcomes.StepOutcome.{StepOutcome}
 use Rattle.cluster_agents.proofs.Committing.{if_it_is_down, if_it_is_up}
 use Rattle.cluster_parts.proofs.Greeting.{GreetLaws, greeted_master, greeting_mails}
-use Rattle.cluster_agents.proofs.Making.{ItemsStand, append_nothing, items_by, quiet_streams}
-use Rattle.cluster_parts.proofs.Outgoing.{kept_so, sides_send_nothing, told_so}
+use Rattle.cluster_agents.proofs.Making.{ItemsStand, items_by, quiet_streams}
+use Rattle.cluster_parts.proofs.Outgoing.{kept_so}
+use Rattle.cluster_model.proofs.Chains.{none_sides}
+use Rattle.cluster_parts.proofs.Shared.{told_so}
+use Rattle.std.proofs.lemmas.List.{append-nil}
 
 pub record StopLaws : Type 0 where
   pub greet : GreetLaws
@@ -147,7 +150,7 @@ anew_falls laws c items r within stand later = record {
   drafts = refl;
   stands = record {
     as_master = refl;
-    as_items = subst (StandIn D.after) (append_nothing items) (subst (λ (xs : List Sent). StandIn D.after (items ++ items_sent [] xs)) silent (items_by laws.stand c (stopping true) D items r answers stand));
+    as_items = subst (StandIn D.after) (append-nil items) (subst (λ (xs : List Sent). StandIn D.after (items ++ items_sent [] xs)) silent (items_by laws.stand c (stopping true) D items r answers stand));
     as_streams = ap kept_streams (sym (quiet_streams c.streams));
     within = subst AreWithin (sym (quiet_streams c.streams)) within;
   };
@@ -167,8 +170,8 @@ anew_falls laws c items r within stand later = record {
     anew_channels = map (with_side restarted) c.world.channels
 
     silent : D.outputs.sent ≡ []
-    silent = append_same (sent_between c.world.channels anew_channels) [] (sent_between anew_channels (map (with_side halted) anew_channels) ++ []) [] (sides_send_nothing restarted c.world.channels)
-        (ap (λ (xs : List Sent). xs ++ []) (sides_send_nothing halted anew_channels))
+    silent = append_same (sent_between c.world.channels anew_channels) [] (sent_between anew_channels (map (with_side halted) anew_channels) ++ []) [] (none_sides restarted c.world.channels)
+        (ap (λ (xs : List Sent). xs ++ []) (none_sides halted anew_channels))
 
 -- behind the last run none comes
 pub last_halts : StopLaws → (c : Cluster) (master : Option (Option Master)) (items : List Item) (ss : List KeptStream) → Reached c → StandsFor c master items ss → nat_lt c.world.run.number last_run ≡ false →
@@ -185,7 +188,7 @@ last_halts laws c master items ss r stands none = subst (Restarts c (ends_with v
     answers = ap (λ (e : Effect). Ok (done c e)) stops
 
     silent : D.outputs.sent ≡ []
-    silent = ap (λ (xs : List Sent). xs ++ []) (sides_send_nothing halted c.world.channels)
+    silent = ap (λ (xs : List Sent). xs ++ []) (none_sides halted c.world.channels)
 
     halted_so : Restarts c (ends_with verdicts.Ok) c.world.run.number None items (kept_streams c.streams)
     halted_so = record {
@@ -196,7 +199,7 @@ last_halts laws c master items ss r stands none = subst (Restarts c (ends_with v
       drafts = refl;
       stands = record {
         as_master = refl;
-        as_items = subst (StandIn D.after) (append_nothing items) (subst (λ (xs : List Sent). StandIn D.after (items ++ items_sent [] xs)) silent (items_by laws.stand c (stopping false) D items r answers stands.as_items));
+        as_items = subst (StandIn D.after) (append-nil items) (subst (λ (xs : List Sent). StandIn D.after (items ++ items_sent [] xs)) silent (items_by laws.stand c (stopping false) D items r answers stands.as_items));
         as_streams = ap kept_streams (sym (quiet_streams c.streams));
         within = subst AreWithin (sym (quiet_streams c.streams)) stands.within;
       };

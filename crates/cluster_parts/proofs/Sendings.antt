@@ -28,8 +28,9 @@ use Rattle.cluster_agents.specs.Moves.{Makes, Reached, kept_agents, sending}
 use Rattle.cluster_parts.specs.Parts.{PartsOf, Takes}
 use Rattle.cluster_agents.specs.declared.outcomes.StepOutcome.{StepOutcome}
 use Rattle.cluster_parts.specs.declared.parts.ClusterState.{ClusterState}
-use Rattle.cluster_agents.proofs.Making.{ItemsStand, append_nothing, items_by}
+use Rattle.cluster_agents.proofs.Making.{ItemsStand, items_by}
 use Rattle.cluster_parts.proofs.Parting.{agent_takes, master_takes}
+use Rattle.std.proofs.lemmas.List.{append-nil}
 
 abbrev marks_so : Bool → Step → Marked
 marks_so b s = record { fell = b; step = s }
@@ -88,7 +89,7 @@ take_one laws c id event master sent r stands e = record {
   drafts = refl;
   stands = record {
     as_master = stands.as_master;
-    as_items = subst (StandIn (taken_so c id event).after) (append_nothing sent) (items_by laws.stand c (marks_so false (Take id)) (taken_so c id event) sent r answers stands.as_items);
+    as_items = subst (StandIn (taken_so c id event).after) (append-nil sent) (items_by laws.stand c (marks_so false (Take id)) (taken_so c id event) sent r answers stands.as_items);
     as_streams = sym (laws.takes c.streams id);
     within = laws.within c id event (subst (λ (x : Cluster). AreRising (ids_of x.streams)) (sym r.is) (laws.rising r.setup r.records r.steps)) stands.within e;
   };

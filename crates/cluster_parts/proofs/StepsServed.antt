@@ -78,9 +78,6 @@ post_of_call law c sent (suc k) stream call stand e = law c sent k stream call s
 pub back_in_time : (c : Cluster) (now : ℕ) → c.world.run.serves ≡ true → nat_lt now c.last_tick ≡ true → answer c (Tick now) ≡ Err TimeBack
 back_in_time c now serves e = if_it_is_down c.world.run.serves (ticks_at c now) (Err MasterDown) serves ∙ if_it_is_down (nat_lt now c.last_tick) (Err TimeBack) (master_does (with_tick c now) (ticked (master_of c) now)) e
 
-pub is_below : (a b : ℕ) → a < b → nat_lt a b ≡ true
-is_below a b h = grind (arith, nat_tests)
-
 pub is_not_below : (a b : ℕ) → b ≤ a → nat_lt a b ≡ false
 is_not_below a b h = grind (arith, nat_tests)
 

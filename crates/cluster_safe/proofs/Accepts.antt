@@ -15,9 +15,9 @@ use Rattle.cluster_model.specs.Sides.{Run, Side, Sending, sends_nothing, issue, 
 use Rattle.cluster_model.specs.Masters.{Framework, Master, Placed, all_booked, held_among}
 use Rattle.cluster_model.specs.Calls.{answers, Given, Accepting, is_covered, job_of, launching, answering, accepts_as, accepts_one, accepts_all}
 use Rattle.cluster_safe.specs.Origin.{launched}
-use Rattle.cluster_safe.proofs.Ids.{same_refl}
-use Rattle.cluster_safe.proofs.Drafts.{both_true}
-use Rattle.cluster_safe.proofs.Worlds.{issued_run}
+use Rattle.cluster_model.proofs.Chains.{issued_run}
+use Rattle.names_core.proofs.IdOrder.{same_itself}
+use Rattle.std.proofs.lemmas.Bool.{and_parts}
 
 -- the rows that jobs use beside others, and the key behind them
 abbrev pub used_after : List Row → List Job → List Row
@@ -55,7 +55,7 @@ come_as : (f : Framework) (g : Given) (next : Numbered) (t : TaskInfo) (x : Acce
 come_as f g next t x (Some p) h = record { chain = h.chain; used = h.used; key = h.key }
 come_as f g next t x None h = cond_both (is_covered g x.used t) (launching f g x t) (answering x (answers f t.name Error (Some t.agent))) (Come f.id g.budget next)
     (λ e. record {
-      chain = chain_push f.id g.budget [] next x.jobs (job_of f x.next t) h.chain h.key refl (subst (λ rows. covers g.budget (t.resources ++ rows) ≡ true) h.used (both_true (bytes_eq t.agent g.agent && not (is_empty t.resources)) (covers g.budget (t.resources ++ x.used)) e).1);
+      chain = chain_push f.id g.budget [] next x.jobs (job_of f x.next t) h.chain h.key refl (subst (λ rows. covers g.budget (t.resources ++ rows) ≡ true) h.used (and_parts (bytes_eq t.agent g.agent && not (is_empty t.resources)) (covers g.budget (t.resources ++ x.used)) e).1);
       used = ap (λ rows. t.resources ++ rows) h.used ∙ sym (used_push [] x.jobs (job_of f x.next t));
       key = ap following h.key ∙ sym (next_push next x.jobs (job_of f x.next t));
     })
@@ -78,7 +78,7 @@ chain_launched framework ids budget (j ∷ js) x c = cond-true (may_launch x.sen
     rest = launched framework ids budget js (launch_one framework ids budget x j)
 
     may : may_launch x.sending.run framework budget x.used j ≡ true
-    may = and_from (same j.key x.sending.run.next_key && same j.framework framework) (covers budget (j.resources ++ x.used)) (and_from (same j.key x.sending.run.next_key) (same j.framework framework) (subst (λ k. same j.key k ≡ true) c.0 (same_refl j.key)) (subst (λ g. same j.framework g ≡ true) c.1 (same_refl j.framework))) c.2
+    may = and_from (same j.key x.sending.run.next_key && same j.framework framework) (covers budget (j.resources ++ x.used)) (and_from (same j.key x.sending.run.next_key) (same j.framework framework) (subst (λ k. same j.key k ≡ true) c.0 (same_itself j.key)) (subst (λ g. same j.framework g ≡ true) c.1 (same_itself j.framework))) c.2
 
     next : Launching
     next = record { used = j.resources ++ x.used; sending = issue (books x.sending j) (Launch j ids) }

@@ -30,9 +30,6 @@ use Rattle.cluster_safe.specs.Honest.{IsKeyOf, counted}
 use Rattle.cluster_safe.specs.Issued.{NumbersNameOne}
 use Rattle.cluster_safe.specs.Origin.{Mark, marks_by, trail, jobs_of}
 use Rattle.cluster_safe.specs.Updates.{longer, states_under, states_on}
-use Rattle.cluster_safe.proofs.Ids.{same_is}
-use Rattle.cluster_safe.proofs.Orders.{each_append, each_map, each_at}
-use Rattle.cluster_safe.proofs.Drafts.{both_true}
 use Rattle.cluster_safe.proofs.DraftOrigins.{Comes, OpenComes, ChannelComes, worlds_come, opened_come}
 use Rattle.cluster_safe.proofs.SideNames.{happens_name}
 use Rattle.cluster_safe.proofs.Worlds.{Sents, KeptIn, all_room, world_opened}
@@ -43,6 +40,9 @@ use Rattle.cluster_safe.proofs.Openings.{origin_opened, opening_good}
 use Rattle.cluster_safe.proofs.Sent.{SentOk, all_over, worlds_sent, opened_sent}
 use Rattle.cluster_safe.proofs.AllIssued.{channel_once}
 use Rattle.cluster_safe.proofs.Histories.{Legal, AckedBy, Tellable, updates_in, HistoryOk, all_tell, step_legal, extend_ok, acked_more, acked_grown, hellos_ok, channels_acked, number_tells, once_same, history_ok, opening_ok}
+use Rattle.names_core.proofs.IdOrder.{same-is}
+use Rattle.names_core.proofs.Lists.{each-append, each-map, each_at}
+use Rattle.std.proofs.lemmas.Bool.{and_parts, or_parts}
 
 -- what a record counts
 
@@ -54,7 +54,7 @@ counted_told A key [] h k lt = absurd (omega arith)
 counted_told A key (t ∷ ts) h k lt = by (same t.job.key key) refl (λ less. counted_told A key ts h.1 k less) lt
   where
     one : same t.job.key key ≡ true → (k < counted key ts → A key k) → (k < t.updates.acknowledged) ⊎ (k < counted key ts) → A key k
-    one e rest (inl less) = subst (λ x. A x k) (same_is t.job.key key e) (h.0.1 k less)
+    one e rest (inl less) = subst (λ x. A x k) (same-is t.job.key key e) (h.0.1 k less)
     one e rest (inr less) = rest less
 
     by : (b : Bool) → same t.job.key key ≡ b → (k < counted key ts → A key k) → k < (if b then max t.updates.acknowledged (counted key ts) else counted key ts) → A key k
@@ -72,11 +72,11 @@ any_ack key session number (m ∷ mails) h = by (is_ack key session number m) re
     first (Issued s n (Launch job offers)) e = absurd cc
     first (Issued s n (Kill other)) e = absurd cc
     first (Issued s n (Ack other i)) e =
-        let both = both_true (eqb s session && eqb n number) (same other key) e in
-        let numbers = both_true (eqb s session) (eqb n number) both.0 in
+        let both = and_parts (eqb s session && eqb n number) (same other key) e in
+        let numbers = and_parts (eqb s session) (eqb n number) both.0 in
         let of : s ≡ session = (Decides-eqb s session).0 numbers.0 in
         let under : n ≡ number = (Decides-eqb n number).0 numbers.1 in
-        let own : other ≡ key = same_is other key both.1 in
+        let own : other ≡ key = same-is other key both.1 in
         (i, cc)
     first (Issued s n (EndFramework framework)) e = absurd cc
 
@@ -92,13 +92,13 @@ last_one key i t done k le lt = by (is_task key t && is_front i t.updates) refl 
   where
     by : (b : Bool) → (is_task key t && is_front i t.updates) ≡ b → is_done (if b then record { job = t.job; offers = t.offers; updates = acknowledged_one t.updates } else t).updates ≡ true → k ≡ i
     by true e d =
-        let front = both_true (eqb t.updates.acknowledged i) (nat_lt i (length t.updates.states)) (both_true (is_task key t) (is_front i t.updates) e).1 in
+        let front = and_parts (eqb t.updates.acknowledged i) (nat_lt i (length t.updates.states)) (and_parts (is_task key t) (is_front i t.updates) e).1 in
         let at : t.updates.acknowledged ≡ i = (Decides-eqb t.updates.acknowledged i).0 front.0 in
-        let few : nat_le (length t.updates.states) (suc t.updates.acknowledged) ≡ true = (both_true (updates_end t.updates) (nat_le (length t.updates.states) (suc t.updates.acknowledged)) d).1 in
+        let few : nat_le (length t.updates.states) (suc t.updates.acknowledged) ≡ true = (and_parts (updates_end t.updates) (nat_le (length t.updates.states) (suc t.updates.acknowledged)) d).1 in
         let most : length t.updates.states ≤ suc t.updates.acknowledged = grind (arith, nat_tests) in
         omega arith
     by false e d =
-        let few : nat_le (length t.updates.states) t.updates.acknowledged ≡ true = (both_true (updates_end t.updates) (nat_le (length t.updates.states) t.updates.acknowledged) d).1 in
+        let few : nat_le (length t.updates.states) t.updates.acknowledged ≡ true = (and_parts (updates_end t.updates) (nat_le (length t.updates.states) t.updates.acknowledged) d).1 in
         let most : length t.updates.states ≤ t.updates.acknowledged = grind (arith, nat_tests) in
         absurd (omega arith)
 
@@ -112,10 +112,6 @@ below_longer k xs ys lt = by (nat_lt (length xs) (length ys)) lt
     by true less = inr less
     by false less = inl less
 
-either_false : (x y : Bool) → (x || y) ≡ false → (x ≡ false) × (y ≡ false)
-either_false true y e = absurd cc
-either_false false y e = (refl, e)
-
 -- where an Ack leaves no task of a key, all updates of those that were there were acknowledged
 taken_out : (A : Numbered → ℕ → Type 0) (key : Numbered) (i : ℕ) → A key i → (ts : List RecordedTask) → Each (TaskTold Always A) ts → list_any (is_task key) (tasks_after (Ack key i) ts) ≡ false → (k : ℕ) → k < length (states_under key ts) → A key k
 taken_out A key i now [] h none k lt = absurd (omega arith)
@@ -126,14 +122,14 @@ taken_out A key i now (t ∷ ts) h none k lt = by (same t.job.key key) refl (λ 
 
     parts : (b : Bool) → is_done (acknowledged key i t).updates ≡ b → list_any (is_task key) (if not b then acknowledged key i t ∷ left else left) ≡ false → ((b ≡ true) ⊎ (is_task key (acknowledged key i t) ≡ false)) × (list_any (is_task key) left ≡ false)
     parts true e n = (inl refl, n)
-    parts false e n = (let both = either_false (is_task key (acknowledged key i t)) (list_any (is_task key) left) n in (inr both.0, both.1))
+    parts false e n = (let both = or_parts (is_task key (acknowledged key i t)) (list_any (is_task key) left) n in (inr both.0, both.1))
 
     here : ((is_done (acknowledged key i t).updates ≡ true) ⊎ (is_task key (acknowledged key i t) ≡ false)) × (list_any (is_task key) left ≡ false)
     here = parts (is_done (acknowledged key i t).updates) refl none
 
     own : same t.job.key key ≡ true → k < length t.updates.states → A key k
     own e less = elim (cases_lt k t.updates.acknowledged) [
-      | inl before ↦ subst (λ x. A x k) (same_is t.job.key key e) (h.0.1 k before)
+      | inl before ↦ subst (λ x. A x k) (same-is t.job.key key e) (h.0.1 k before)
       | inr later ↦ last here.0 later
     ]
       where
@@ -178,7 +174,7 @@ in_acked A key count old new once become h next below k lt = by (has_task key ne
     by : (b : Bool) → has_task key new ≡ b → (c : Bool) → (has_task key old && next_is_ack key old) ≡ c → k < (if b then counted key new.agent.durable.tasks else (if c then length (states_under key old.agent.durable.tasks) else count)) → A key k
     by true e c d less = counted_told A key new.agent.durable.tasks next.states.0 k less
     by false e true d less =
-        let both = both_true (has_task key old) (next_is_ack key old) d in
+        let both = and_parts (has_task key old) (next_is_ack key old) d in
         let x = left_by key old new once become e both.0 both.1 in
         let told : A key x.1 = each_at (DownTold Always A) old.to_agent x.0 (Issued old.agent.durable.session (suc old.agent.applied) (Ack key x.1)) h.downs x.2 in
         taken_out A key x.1 told old.agent.durable.tasks h.states.0 (subst (λ ts. list_any (is_task key) ts ≡ false) x.3 e) k less
@@ -251,7 +247,7 @@ after_become w Halt k = sides_become last_session w.channels
 -- all that happens
 
 pub world_once : (v : Sents) (w : World) → SentOk v w → Each NumbersNameOne w.channels
-world_once v w ok = each_map (KeptIn v w.run) NumbersNameOne (λ c k. channel_once (v c.side.name) w.run c k) w.channels ok.world.kept
+world_once v w ok = each-map (KeptIn v w.run) NumbersNameOne (λ c k. channel_once (v c.side.name) w.run c k) w.channels ok.world.kept
 
 over_acked : (A : Numbered → ℕ → Type 0) (n : ℕ) (rs : List RecordParts) (hs : List Happening) (w : World) (marks : List Mark) (v : Sents) → Each (HappeningOk A n) hs → OriginOk rs w marks → SentOk v w → Each ChannelComes w.channels → AllAcked A w →
     (key : Numbered) (count : ℕ) → ((k : ℕ) → k < count → A key k) → (k : ℕ) → k < acknowledged_over key hs w count → A key k
@@ -296,13 +292,13 @@ all_acked records run (s ∷ ss) h ok all =
 
 pub each_flat : (P : RecordedTask → Type 0) (cs : List Channel) → Each (λ (c : Channel). Each P c.agent.durable.tasks) cs → Each P (flat_map (λ (c : Channel). c.agent.durable.tasks) cs)
 each_flat P [] h = tt
-each_flat P (c ∷ cs) h = each_append P c.agent.durable.tasks (flat_map (λ (d : Channel). d.agent.durable.tasks) cs) h.0 (each_flat P cs h.1)
+each_flat P (c ∷ cs) h = each-append P c.agent.durable.tasks (flat_map (λ (d : Channel). d.agent.durable.tasks) cs) h.0 (each_flat P cs h.1)
 
 opening_all : (setup : Setup) (records : List RecordParts) → GoodOpening setup.run records → IsAcked records (open_world setup.run records) (opening setup records)
 opening_all setup records good key k lt =
     acked_more records hs start [] [] (opening setup records).state.posts key k
     (over_acked (AckedBy records [] []) setup.run records hs start [] (λ name i. states_on name i start.channels) (hellos_ok (AckedBy records [] []) setup.run start.channels) (origin_opened setup.run records good) sent (opened_come records) first key
-    (counted key (flat_map (λ (c : Channel). c.agent.durable.tasks) start.channels)) (counted_told (AckedBy records [] []) key (flat_map (λ (c : Channel). c.agent.durable.tasks) start.channels) (each_flat (TaskTold Always (AckedBy records [] [])) start.channels (each_map (Carried Always (AckedBy records [] [])) (λ (c : Channel). Each (TaskTold Always (AckedBy records [] [])) c.agent.durable.tasks) (λ c x. x.states.0) start.channels first))) k lt)
+    (counted key (flat_map (λ (c : Channel). c.agent.durable.tasks) start.channels)) (counted_told (AckedBy records [] []) key (flat_map (λ (c : Channel). c.agent.durable.tasks) start.channels) (each_flat (TaskTold Always (AckedBy records [] [])) start.channels (each-map (Carried Always (AckedBy records [] [])) (λ (c : Channel). Each (TaskTold Always (AckedBy records [] [])) c.agent.durable.tasks) (λ c x. x.states.0) start.channels first))) k lt)
   where
     start : World
     start = open_world setup.run records

@@ -28,22 +28,24 @@ use Rattle.cluster_safe.specs.Honest.{counted}
 use Rattle.cluster_safe.specs.Issued.{NumbersNameOne}
 use Rattle.cluster_safe.specs.Origin.{Mark, trail, From, jobs_of}
 use Rattle.cluster_safe.specs.Updates.{longer, states_under, states_on, recorded_states, updates_over, updates_of, AcknowledgeTheirs}
-use Rattle.cluster_safe.proofs.Ids.{same_is, same_refl}
-use Rattle.cluster_safe.proofs.Orders.{each_left, each_right, each_map, each_both}
+use Rattle.cluster_safe.proofs.Orders.{each_left, each_right}
 use Rattle.cluster_safe.proofs.Placed.{each_put}
-use Rattle.cluster_safe.proofs.Drafts.{both_true}
 use Rattle.cluster_safe.proofs.DraftOrigins.{Comes, ChannelComes, worlds_come, opened_come}
 use Rattle.cluster_safe.proofs.Worlds.{Sents, KeptIn, world_opened}
-use Rattle.cluster_safe.proofs.Told.{each_filter, each_mapped}
+use Rattle.cluster_safe.proofs.Told.{each_mapped}
 use Rattle.cluster_safe.proofs.Counts.{longer_left, longer_right, count, over_append}
 use Rattle.cluster_safe.proofs.OriginWorlds.{ChannelOk, names_of, OriginOk, origin_all, tasks_from}
 use Rattle.cluster_safe.proofs.Openings.{origin_opened, opening_good}
 use Rattle.cluster_safe.proofs.Stopped.{from_alike}
 use Rattle.cluster_safe.proofs.Owners.{Owned, owned_grows}
 use Rattle.cluster_safe.proofs.Sent.{SentOk, worlds_sent, opened_sent, unmapped}
-use Rattle.cluster_safe.proofs.Histories.{updates_in, after_append, trail_append, have_all, history_ok}
+use Rattle.cluster_safe.proofs.Histories.{updates_in, trail_append, have_all, history_ok}
 use Rattle.cluster_safe.proofs.Gapless.{counted_within, opened_tasks}
 use Rattle.cluster_safe.proofs.AcknowledgedAt.{Becomes, AllBecome, after_become, world_once, acked_append}
+use Rattle.cluster_model.proofs.Chains.{after_all-append}
+use Rattle.names_core.proofs.IdOrder.{same-is, same_itself}
+use Rattle.names_core.proofs.Lists.{each-filter, each-map, each_both}
+use Rattle.std.proofs.lemmas.Bool.{and_parts}
 
 -- tasks of a key
 
@@ -67,7 +69,7 @@ found P key (t ∷ ts) h p = by (same t.job.key key) refl h (λ e. found P key t
   where
     by : (b : Bool) → same t.job.key key ≡ b → (b || list_any (is_task key) ts) ≡ true → (list_any (is_task key) ts ≡ true → Found P key ts)
         → (u : RecordedTask) × P u × (u.job.key ≡ key) × (u.updates.acknowledged ≤ (if b then max t.updates.acknowledged (counted key ts) else counted key ts)) × (length u.updates.states ≤ length (if b then longer t.updates.states (states_under key ts) else states_under key ts))
-    by true e any rest = (t, p.0, same_is t.job.key key e, omega arith, longer_left t.updates.states (states_under key ts))
+    by true e any rest = (t, p.0, same-is t.job.key key e, omega arith, longer_left t.updates.states (states_under key ts))
     by false e any rest = rest any
 
 is_free : (key : Numbered) (ts : List RecordedTask) → list_any (is_task key) ts ≡ false → Each (λ t. t.job.key ≢ key) ts
@@ -76,14 +78,14 @@ is_free key (t ∷ ts) h = by (same t.job.key key) refl h (is_free key ts)
   where
     by : (b : Bool) → same t.job.key key ≡ b → (b || list_any (is_task key) ts) ≡ false → (list_any (is_task key) ts ≡ false → Each (λ u. u.job.key ≢ key) ts) → Each (λ u. u.job.key ≢ key) (t ∷ ts)
     by true e none rest = absurd cc
-    by false e none rest = ((λ is. let on : same t.job.key key ≡ true = subst (λ x. same t.job.key x ≡ true) is (same_refl t.job.key) in cc), rest none)
+    by false e none rest = ((λ is. let on : same t.job.key key ≡ true = subst (λ x. same t.job.key x ≡ true) is (same_itself t.job.key) in cc), rest none)
 
 free_agrees : (key : Numbered) (n : ℕ) (ts : List RecordedTask) → list_any (is_task key) ts ≡ false → Agree key n ts
-free_agrees key n ts h = each_map (λ t. t.job.key ≢ key) (λ t. t.job.key ≡ key → t.updates.acknowledged ≡ n) (λ t differ is. absurd (differ is)) ts (is_free key ts h)
+free_agrees key n ts h = each-map (λ t. t.job.key ≢ key) (λ t. t.job.key ≡ key → t.updates.acknowledged ≡ n) (λ t differ is. absurd (differ is)) ts (is_free key ts h)
 
 counted_none : (key : Numbered) (ts : List RecordedTask) → Each (λ t. t.job.key ≢ key) ts → counted key ts ≡ 0
 counted_none key [] h = refl
-counted_none key (t ∷ ts) h = cond_both (same t.job.key key) (max t.updates.acknowledged (counted key ts)) (counted key ts) (λ n. n ≡ 0) (λ e. absurd (h.0 (same_is t.job.key key e))) (λ e. counted_none key ts h.1)
+counted_none key (t ∷ ts) h = cond_both (same t.job.key key) (max t.updates.acknowledged (counted key ts)) (counted key ts) (λ n. n ≡ 0) (λ e. absurd (h.0 (same-is t.job.key key e))) (λ e. counted_none key ts h.1)
 
 -- where each key stands once, its task has what is counted
 counted_is : (key : Numbered) (ts : List RecordedTask) → Once ts → Agree key (counted key ts) ts
@@ -92,11 +94,11 @@ counted_is key (t ∷ ts) once = by (same t.job.key key) refl (counted_is key ts
   where
     by : (b : Bool) → same t.job.key key ≡ b → Agree key (counted key ts) ts → Agree key (if b then max t.updates.acknowledged (counted key ts) else counted key ts) (t ∷ ts)
     by true e rest =
-        let is : t.job.key ≡ key = same_is t.job.key key e in
+        let is : t.job.key ≡ key = same-is t.job.key key e in
         let others : Each (λ u. u.job.key ≢ key) ts = subst (λ x. Each (λ u. u.job.key ≢ x) ts) is once.0 in
         let none : counted key ts ≡ 0 = counted_none key ts others in
-        ((λ k. omega arith), each_map (λ u. u.job.key ≢ key) (λ u. u.job.key ≡ key → u.updates.acknowledged ≡ max t.updates.acknowledged (counted key ts)) (λ u differ k. absurd (differ k)) ts others)
-    by false e rest = ((λ k. absurd (let on : same t.job.key key ≡ true = subst (λ x. same t.job.key x ≡ true) k (same_refl t.job.key) in cc)), rest)
+        ((λ k. omega arith), each-map (λ u. u.job.key ≢ key) (λ u. u.job.key ≡ key → u.updates.acknowledged ≡ max t.updates.acknowledged (counted key ts)) (λ u differ k. absurd (differ k)) ts others)
+    by false e rest = ((λ k. absurd (let on : same t.job.key key ≡ true = subst (λ x. same t.job.key x ≡ true) k (same_itself t.job.key) in cc)), rest)
 
 distinct_once : (ts : List RecordedTask) (rest : List TaskInFlight) → Distinct (map task_stake ts ++ rest) → Once ts
 distinct_once [] rest d = tt
@@ -123,7 +125,7 @@ stated_bounded key state t h = cond_both (is_task key t && not (has_ended t)) (r
 
 acknowledged_bounded : (key : Numbered) (i : ℕ) (t : RecordedTask) → IsBounded t → IsBounded (acknowledged key i t)
 acknowledged_bounded key i t h = cond_both (is_task key t && is_front i t.updates) (record { job = t.job; offers = t.offers; updates = acknowledged_one t.updates }) t IsBounded
-    (λ e. let front = both_true (eqb t.updates.acknowledged i) (nat_lt i (length t.updates.states)) (both_true (is_task key t) (is_front i t.updates) e).1 in
+    (λ e. let front = and_parts (eqb t.updates.acknowledged i) (nat_lt i (length t.updates.states)) (and_parts (is_task key t) (is_front i t.updates) e).1 in
     let at : t.updates.acknowledged ≡ i = (Decides-eqb t.updates.acknowledged i).0 front.0 in
     let more : nat_lt i (length t.updates.states) ≡ true = front.1 in
     let less : i < length t.updates.states = grind (arith, nat_tests) in omega arith) (λ e. h)
@@ -131,8 +133,8 @@ acknowledged_bounded key i t h = cond_both (is_task key t && is_front i t.update
 command_bounded : (w : Command) (ts : List RecordedTask) → Each IsBounded ts → Each IsBounded (tasks_after w ts)
 command_bounded (Launch job offers) ts h = each_put IsBounded (launched_task job offers) ts (le_refl 0) h
 command_bounded (Kill key) ts h = each_mapped IsBounded IsBounded (stated key Killed) (stated_bounded key Killed) ts h
-command_bounded (Ack key i) ts h = each_filter IsBounded (λ t. not (is_done t.updates)) (map (acknowledged key i) ts) (each_mapped IsBounded IsBounded (acknowledged key i) (acknowledged_bounded key i) ts h)
-command_bounded (EndFramework framework) ts h = each_filter IsBounded (λ t. not (same t.job.framework framework)) ts h
+command_bounded (Ack key i) ts h = each-filter IsBounded (λ t. not (is_done t.updates)) (map (acknowledged key i) ts) (each_mapped IsBounded IsBounded (acknowledged key i) (acknowledged_bounded key i) ts h)
+command_bounded (EndFramework framework) ts h = each-filter IsBounded (λ t. not (same t.job.framework framework)) ts h
 
 comes_bounded : (a : Agent) (mails : List MasterMail) (ts : List RecordedTask) → Comes a mails ts → Each IsBounded a.durable.tasks → Each IsBounded ts
 comes_bounded a mails ts (inl e) h = subst (Each IsBounded) (sym e) h
@@ -144,7 +146,7 @@ abbrev Grows : Numbered → ℕ → RecordedTask → Type 0
 Grows key n t = t.job.key ≡ key → (n ≤ t.updates.acknowledged) ⊎ (t.updates.states ≡ [])
 
 agree_grows : (key : Numbered) (n : ℕ) (ts : List RecordedTask) → Agree key n ts → Each (Grows key n) ts
-agree_grows key n ts h = each_map (λ t. t.job.key ≡ key → t.updates.acknowledged ≡ n) (Grows key n) (λ t f is. inl (let e : t.updates.acknowledged ≡ n = f is in omega arith)) ts h
+agree_grows key n ts h = each-map (λ t. t.job.key ≡ key → t.updates.acknowledged ≡ n) (Grows key n) (λ t f is. inl (let e : t.updates.acknowledged ≡ n = f is in omega arith)) ts h
 
 stated_grows : (key other : Numbered) (state : TaskState) (n : ℕ) (t : RecordedTask) → (t.job.key ≡ key → t.updates.acknowledged ≡ n) → Grows key n (stated other state t)
 stated_grows key other state n t f is =
@@ -158,8 +160,8 @@ acknowledged_grows key other i n t f = cond_both (is_task other t && is_front i 
 command_grows : (key : Numbered) (n : ℕ) (w : Command) (ts : List RecordedTask) → Agree key n ts → Each (Grows key n) (tasks_after w ts)
 command_grows key n (Launch job offers) ts h = each_put (Grows key n) (launched_task job offers) ts (λ is. inr refl) (agree_grows key n ts h)
 command_grows key n (Kill other) ts h = each_mapped (λ t. t.job.key ≡ key → t.updates.acknowledged ≡ n) (Grows key n) (stated other Killed) (stated_grows key other Killed n) ts h
-command_grows key n (Ack other i) ts h = each_filter (Grows key n) (λ t. not (is_done t.updates)) (map (acknowledged other i) ts) (each_mapped (λ t. t.job.key ≡ key → t.updates.acknowledged ≡ n) (Grows key n) (acknowledged other i) (acknowledged_grows key other i n) ts h)
-command_grows key n (EndFramework framework) ts h = each_filter (Grows key n) (λ t. not (same t.job.framework framework)) ts (agree_grows key n ts h)
+command_grows key n (Ack other i) ts h = each-filter (Grows key n) (λ t. not (is_done t.updates)) (map (acknowledged other i) ts) (each_mapped (λ t. t.job.key ≡ key → t.updates.acknowledged ≡ n) (Grows key n) (acknowledged other i) (acknowledged_grows key other i n) ts h)
+command_grows key n (EndFramework framework) ts h = each-filter (Grows key n) (λ t. not (same t.job.framework framework)) ts (agree_grows key n ts h)
 
 comes_grows : (key : Numbered) (n : ℕ) (a : Agent) (mails : List MasterMail) (ts : List RecordedTask) → Comes a mails ts → Agree key n a.durable.tasks → Each (Grows key n) ts
 comes_grows key n a mails ts (inl e) h = subst (Each (Grows key n)) (sym e) (agree_grows key n a.durable.tasks h)
@@ -220,7 +222,7 @@ in_ok rs marks key n most old new become o w few = by (has_task key new) refl (h
 
     by : (b : Bool) → has_task key new ≡ b → (c : Bool) → (has_task key old && next_is_ack key old) ≡ c → InOk key n most (if b then counted key new.agent.durable.tasks else (if c then length (states_under key old.agent.durable.tasks) else n)) new
     by true e c d = (no_less e, le_trans (counted_within key us (comes_bounded old.agent old.to_agent us become o.bounded)) w.within, counted_is key us w.once)
-    by false e true d = (all_there (both_true (has_task key old) (next_is_ack key old) d).0, o.within, free_agrees key (length (states_under key ts)) us e)
+    by false e true d = (all_there (and_parts (has_task key old) (next_is_ack key old) d).0, o.within, free_agrees key (length (states_under key ts)) us e)
     by false e false d = (le_refl n, few, free_agrees key n us e)
 
 -- all agents
@@ -267,8 +269,8 @@ among_ok rs marks key n most keys few (old ∷ olds) (new ∷ news) become names
     mine own =
         let here = in_ok rs marks key n most old new become.0 o.0 w.0 few in
         let others : BothFree key olds news = (
-          not_owned rs marks key old.side.name keys own olds names.0 (each_map (OldOk rs marks key n most) (Owner rs marks key) (λ c x. x.owned) olds o.1),
-          not_owned rs marks key old.side.name keys own news (subst (Each (λ m. m ≢ old.side.name)) (sym (named_alike olds news become.2)) names.0) (each_map (NewOk rs marks key n most) (Owner rs marks key) (λ c x. x.owned) news w.1),
+          not_owned rs marks key old.side.name keys own olds names.0 (each-map (OldOk rs marks key n most) (Owner rs marks key) (λ c x. x.owned) olds o.1),
+          not_owned rs marks key old.side.name keys own news (subst (Each (λ m. m ≢ old.side.name)) (sym (named_alike olds news become.2)) names.0) (each-map (NewOk rs marks key n most) (Owner rs marks key) (λ c x. x.owned) news w.1),
         ) in
         subst (λ r. AmongOk key n most r (new ∷ news)) (sym (among_free key (acknowledged_in key n old new) olds news others))
         (here.0, here.1, (here.2, all_free_agree key (acknowledged_in key n old new) news others.1))
@@ -306,10 +308,10 @@ owner : (rs : List RecordParts) (marks : List Mark) (key : Numbered) (c : Channe
 owner rs marks key c h e = (let x = found (λ t. From rs c.side.name marks t.job) key c.agent.durable.tasks e h in (x.0.job, x.1, x.2))
 
 owners : (rs : List RecordParts) (w : World) (marks : List Mark) (key : Numbered) → OriginOk rs w marks → Each (Owner rs marks key) w.channels
-owners rs w marks key ok = each_map (ChannelOk rs w.run marks) (Owner rs marks key) (λ c o. owner rs marks key c (tasks_from rs w.run marks c o)) w.channels ok.channels
+owners rs w marks key ok = each-map (ChannelOk rs w.run marks) (Owner rs marks key) (λ c o. owner rs marks key c (tasks_from rs w.run marks c o)) w.channels ok.channels
 
 all_once : (v : Sents) (w : World) → SentOk v w → Each (λ c. Once c.agent.durable.tasks) w.channels
-all_once v w ok = each_map (KeptIn v w.run) (λ c. Once c.agent.durable.tasks) (λ c k. distinct_once c.agent.durable.tasks (coming k.0 c.agent) k.1.states.0.distinct) w.channels ok.world.kept
+all_once v w ok = each-map (KeptIn v w.run) (λ c. Once c.agent.durable.tasks) (λ c k. distinct_once c.agent.durable.tasks (coming k.0 c.agent) k.1.states.0.distinct) w.channels ok.world.kept
 
 -- no more states stand with one agent than with all
 some_count : (key : Numbered) (ts us : List RecordedTask) → (count ts key ≤ count (ts ++ us) key) × (count us key ≤ count (ts ++ us) key)
@@ -324,10 +326,10 @@ each_count : (key : Numbered) (cs : List Channel) → Each (λ c. count c.agent.
 each_count key [] = tt
 each_count key (c ∷ cs) =
     let both = some_count key c.agent.durable.tasks (flat_map (λ (d : Channel). d.agent.durable.tasks) cs) in
-    (both.0, each_map (λ d. count d.agent.durable.tasks key ≤ count (flat_map (λ (e : Channel). e.agent.durable.tasks) cs) key) (λ d. count d.agent.durable.tasks key ≤ count (c.agent.durable.tasks ++ flat_map (λ (e : Channel). e.agent.durable.tasks) cs) key) (λ d le. le_trans le both.1) cs (each_count key cs))
+    (both.0, each-map (λ d. count d.agent.durable.tasks key ≤ count (flat_map (λ (e : Channel). e.agent.durable.tasks) cs) key) (λ d. count d.agent.durable.tasks key ≤ count (c.agent.durable.tasks ++ flat_map (λ (e : Channel). e.agent.durable.tasks) cs) key) (λ d le. le_trans le both.1) cs (each_count key cs))
 
 all_most : (key : Numbered) (w : World) (most : ℕ) → length (recorded_states key w) ≤ most → Each (λ c. count c.agent.durable.tasks key ≤ most) w.channels
-all_most key w most le = each_map (λ c. count c.agent.durable.tasks key ≤ length (recorded_states key w)) (λ c. count c.agent.durable.tasks key ≤ most) (λ c less. le_trans less le) w.channels (each_count key w.channels)
+all_most key w most le = each-map (λ c. count c.agent.durable.tasks key ≤ length (recorded_states key w)) (λ c. count c.agent.durable.tasks key ≤ most) (λ c less. le_trans less le) w.channels (each_count key w.channels)
 
 over_stands : (key : Numbered) (hs : List Happening) (w : World) (before : List TaskState) → length (recorded_states key w) ≤ length before → length (recorded_states key (after_all hs w)) ≤ length (updates_over key hs w before)
 over_stands key [] w before le = le
@@ -360,7 +362,7 @@ one_more rs start key hs h ok k = (record { agree = subst (λ r. Each (λ c. Agr
     marks = trail (hs ++ h ∷ []) start []
 
     ends : after (after_all hs start) h ≡ after_all (hs ++ h ∷ []) start
-    ends = sym (after_append hs (h ∷ []) start)
+    ends = sym (after_all-append hs (h ∷ []) start)
 
     counts : acknowledged_at key (hs ++ h ∷ []) start ≡ acknowledged_among key (acknowledged_at key hs start) (after_all hs start).channels (after_all (hs ++ h ∷ []) start).channels
     counts = subst (λ w. acknowledged_at key (hs ++ h ∷ []) start ≡ acknowledged_among key (acknowledged_at key hs start) (after_all hs start).channels w.channels) ends (acked_append key hs (h ∷ []) start (counted key (flat_map (λ (c : Channel). c.agent.durable.tasks) start.channels)))
@@ -375,7 +377,7 @@ one_more rs start key hs h ok k = (record { agree = subst (λ r. Each (λ c. Agr
     few = le_trans k.most longer_now
 
     old_owners : Each (Owner rs (trail (hs ++ h ∷ []) start []) key) (after_all hs start).channels
-    old_owners = each_map (Owner rs (trail hs start []) key) (Owner rs (trail (hs ++ h ∷ []) start []) key)
+    old_owners = each-map (Owner rs (trail hs start []) key) (Owner rs (trail (hs ++ h ∷ []) start []) key)
         (λ c f e. subst (λ ms. Owned rs c.side.name key ms) (sym (trail_append hs (h ∷ []) start [])) (owned_grows rs (h ∷ []) (after_all hs start) (trail hs start []) c.side.name key (f e)))
         (after_all hs start).channels (owners rs (after_all hs start) (trail hs start []) key (origin_at rs start ok hs))
 
@@ -400,8 +402,8 @@ one_more rs start key hs h ok k = (record { agree = subst (λ r. Each (λ c. Agr
         (each_and (λ c. Once c.agent.durable.tasks) (Owner rs marks key) (after_all (hs ++ h ∷ []) start).channels
         (all_once (updates_in start (hs ++ h ∷ [])) (after_all (hs ++ h ∷ []) start) (sent_at rs start ok (hs ++ h ∷ []))) (owners rs (after_all (hs ++ h ∷ []) start) marks key (origin_at rs start ok (hs ++ h ∷ []))))
         (each_and (λ c. Each (λ t. t.job.key ≡ key → t.updates.states ≡ [] → n ≡ 0) c.agent.durable.tasks) (λ c. count c.agent.durable.tasks key ≤ most) (after_all (hs ++ h ∷ []) start).channels
-        (each_map (λ c. Each (λ t. t.updates.states ≡ updates_of t.job.key (hs ++ h ∷ []) start) c.agent.durable.tasks) (λ c. Each (λ t. t.job.key ≡ key → t.updates.states ≡ [] → n ≡ 0) c.agent.durable.tasks)
-        (λ c x. each_map (λ t. t.updates.states ≡ updates_of t.job.key (hs ++ h ∷ []) start) (λ t. t.job.key ≡ key → t.updates.states ≡ [] → n ≡ 0) (λ t e. none_before t e) c.agent.durable.tasks x)
+        (each-map (λ c. Each (λ t. t.updates.states ≡ updates_of t.job.key (hs ++ h ∷ []) start) c.agent.durable.tasks) (λ c. Each (λ t. t.job.key ≡ key → t.updates.states ≡ [] → n ≡ 0) c.agent.durable.tasks)
+        (λ c x. each-map (λ t. t.updates.states ≡ updates_of t.job.key (hs ++ h ∷ []) start) (λ t. t.job.key ≡ key → t.updates.states ≡ [] → n ≡ 0) (λ t e. none_before t e) c.agent.durable.tasks x)
         (after_all (hs ++ h ∷ []) start).channels (have_all rs start (hs ++ h ∷ []) (after_all (hs ++ h ∷ []) start) ok.origin (origin_at rs start ok (hs ++ h ∷ [])) (sent_at rs start ok (hs ++ h ∷ []))))
         (all_most key (after_all (hs ++ h ∷ []) start) most (stands start key (hs ++ h ∷ []))))
 

@@ -25,9 +25,9 @@ use Rattle.cluster_model.specs.Mails.{judged, rescinds, loses, is_to_end, sessio
 use Rattle.cluster_model.specs.Rounds.{round, allocated}
 use Rattle.cluster_model.specs.Steps.{happening_of}
 use Rattle.cluster_safe.specs.Origin.{launched}
-use Rattle.cluster_safe.proofs.Orders.{each_append}
 use Rattle.cluster_safe.proofs.Told.{Carried, SendingTold, StepTold, happens_told, shut_told}
 use Rattle.cluster_safe.proofs.Origins.{launch_told}
+use Rattle.names_core.proofs.Lists.{each-append}
 
 -- channels
 
@@ -142,7 +142,7 @@ if_ok A n false x y h k = k
 
 teardown_ok : (A : Numbered → ℕ → Type 0) (n : ℕ) (m : Master) (f : Framework) → Each (MoveOk A n) (on_teardown m f).moves
 teardown_ok A n m f = cond_both (list_any (λ s. not (has_numbers 1 s)) (sides_with_tasks m f.id)) (refused m LimitExceeded) torn (λ d. Each (MoveOk A n) d.moves) (λ e. tt)
-    (λ e. each_append (MoveOk A n) (withdraws (is_of f.id) m) (TearDownAll f.id ∷ map (λ s. AtSide s.name (SendEnd f.id)) (sides_with_tasks m f.id)) (withdraws_ok A n (is_of f.id) m) (tt, mapped_ok A n (λ (s : Side). AtSide s.name (SendEnd f.id)) (λ s. tt) (sides_with_tasks m f.id)))
+    (λ e. each-append (MoveOk A n) (withdraws (is_of f.id) m) (TearDownAll f.id ∷ map (λ s. AtSide s.name (SendEnd f.id)) (sides_with_tasks m f.id)) (withdraws_ok A n (is_of f.id) m) (tt, mapped_ok A n (λ (s : Side). AtSide s.name (SendEnd f.id)) (λ s. tt) (sides_with_tasks m f.id)))
   where
     torn : MasterEffect
     torn = record { refusal = None; moves = withdraws (is_of f.id) m ++ TearDownAll f.id ∷ map (λ s. AtSide s.name (SendEnd f.id)) (sides_with_tasks m f.id); events = []; opens = []; closes = to_list f.stream; registers = with_framework m.registers (record f { stream = None }) }

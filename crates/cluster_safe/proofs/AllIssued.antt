@@ -26,11 +26,11 @@ use Rattle.cluster_model.specs.Openings.{GoodOpening}
 use Rattle.cluster_model.specs.Steps.{Setup, Marked, History, history}
 use Rattle.cluster_safe.specs.Facts.{DownOk, OpenOk, Kept}
 use Rattle.cluster_safe.specs.Issued.{AreAllIssued, HasIssued, AllIssued, NumbersNameOne}
-use Rattle.cluster_safe.proofs.Commands.{get_length, get_more, get_push}
-use Rattle.cluster_safe.proofs.Orders.{each_map, each_both, each_at}
-use Rattle.cluster_safe.proofs.Drafts.{both_true}
+use Rattle.cluster_safe.proofs.Commands.{get_length}
 use Rattle.cluster_safe.proofs.Worlds.{KeptIn}
 use Rattle.cluster_safe.proofs.Histories.{HistoryOk, history_ok, updates_in}
+use Rattle.names_core.proofs.Lists.{each-map, each_at, each_both, slice_get-append, slice_get-push}
+use Rattle.std.proofs.lemmas.Bool.{and_parts}
 
 -- mails
 
@@ -41,14 +41,14 @@ abbrev SideSent : Side → List MasterMail → Type 0
 SideSent s mails = AreSent s.session (s.known + length s.waiting) mails
 
 sent_more : (session count : ℕ) (ms us : List MasterMail) → AreSent session count ms → AreSent session count (ms ++ us)
-sent_more session count ms us h n lt = let x = h n lt in (x.0, x.1, get_more ms us x.0 (Issued session (suc n) x.1) x.2)
+sent_more session count ms us h n lt = let x = h n lt in (x.0, x.1, slice_get-append ms us x.0 (Issued session (suc n) x.1) x.2)
 
 one_more : (session count : ℕ) (ms : List MasterMail) (w : Command) → AreSent session count ms → AreSent session (suc count) (ms ++ Issued session (suc count) w ∷ [])
 one_more session count ms w h n lt = by (cases_lt n count)
   where
     by : (n < count) ⊎ (count ≤ n) → (place : ℕ) × (what : Command) × (slice_get (ms ++ Issued session (suc count) w ∷ []) place ≡ Some (Issued session (suc n) what))
     by (inl below) = sent_more session count ms (Issued session (suc count) w ∷ []) h n below
-    by (inr above) = (let is : count ≡ n = omega arith in (length ms, w, get_push ms (Issued session (suc count) w) ∙ ap (λ i. Some (Issued session (suc i) w)) is))
+    by (inr above) = (let is : count ≡ n = omega arith in (length ms, w, slice_get-push ms (Issued session (suc count) w) ∙ ap (λ i. Some (Issued session (suc i) w)) is))
 
 -- the master's steps
 
@@ -101,8 +101,8 @@ received_sent mails run s (Applied session count) h = cond_both (counts s sessio
   where
     as_many : counts s session count ≡ true → s.known + length s.waiting ≡ count + length (drop (count - s.known) s.waiting)
     as_many e =
-        let parts = both_true (s.is_open && session == s.session) (nat_lt s.known count && nat_le count (s.known + length s.waiting)) e in
-        let both = both_true (nat_lt s.known count) (nat_le count (s.known + length s.waiting)) parts.1 in
+        let parts = and_parts (s.is_open && session == s.session) (nat_lt s.known count && nat_le count (s.known + length s.waiting)) e in
+        let both = and_parts (nat_lt s.known count) (nat_le count (s.known + length s.waiting)) parts.1 in
         let above : s.known < count = (let t : nat_lt s.known count ≡ true = both.0 in grind (arith, nat_tests)) in
         let within : count ≤ s.known + length s.waiting = (let t : nat_le count (s.known + length s.waiting) ≡ true = both.1 in grind (arith, nat_tests)) in
         omega (arith, length-drop (count - s.known) s.waiting)
@@ -229,7 +229,7 @@ history_issued setup records steps good = each_both (KeptIn (updates_in (open_wo
     ok = history_ok setup records steps good
 
 pub history_once : (setup : Setup) (records : List RecordParts) (steps : List Marked) → GoodOpening setup.run records → Each NumbersNameOne (history setup records steps).state.world.channels
-history_once setup records steps good = each_map (KeptIn (updates_in (open_world setup.run records) h.happenings) h.state.world.run) NumbersNameOne
+history_once setup records steps good = each-map (KeptIn (updates_in (open_world setup.run records) h.happenings) h.state.world.run) NumbersNameOne
     (λ c k. channel_once (updates_in (open_world setup.run records) h.happenings c.side.name) h.state.world.run c k) h.state.world.channels (history_ok setup records steps good).sent.world.kept
   where
     h : History

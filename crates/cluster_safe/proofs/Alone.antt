@@ -19,6 +19,8 @@ use Rattle.messages.specs.declared.steps.Sent.{Sent}
 use Rattle.messages.specs.declared.steps.Sent.TheVariants.{ToAgent as MailToAgent}
 use Rattle.cluster_model.specs.Steps.{sent_in, sent_between, sent_by, done, happening_of, effect_of, channel_of}
 use Rattle.cluster_safe.proofs.Origins.{untouched_issue, untouched_all}
+use Rattle.cluster_model.proofs.Chains.{none_between, none_in, none_sides, sides_mapped}
+use Rattle.std.proofs.Math.Seq.{drop-append_seam, drop-length}
 
 -- sides
 
@@ -34,10 +36,6 @@ same_at agent step run (c ∷ cs) = by (bytes_eq c.side.name agent) refl (same_a
     by true e rest = rw e (record { run = refl; sides = refl })
     by false e rest = rw e (record { run = rest.run; sides = ap (λ ss. c.side ∷ ss) rest.sides })
 
-sides_mapped : (f : Side → Side) (cs : List Channel) → sides_of (map (with_side f) cs) ≡ map f (sides_of cs)
-sides_mapped f [] = refl
-sides_mapped f (c ∷ cs) = ap (λ ss. f c.side ∷ ss) (sides_mapped f cs)
-
 abbrev seen : World → List ToAgent → Moved
 seen w sent = record { run = w.run; sides = sides_of w.channels; sent = sent }
 
@@ -45,25 +43,6 @@ seen w sent = record { run = w.run; sides = sides_of w.channels; sent = sent }
 
 abbrev pub mails_to : List ToAgent → List Sent
 mails_to mails = map MailToAgent mails
-
-drop_all : {A : Type 0} (xs ys : List A) → drop (length xs) (xs ++ ys) ≡ ys
-drop_all [] ys = refl
-drop_all (x ∷ xs) ys = drop_all xs ys
-
-drop_itself : {A : Type 0} (xs : List A) → drop (length xs) xs ≡ []
-drop_itself [] = refl
-drop_itself (x ∷ xs) = drop_itself xs
-
-none_in : (c : Channel) → sent_in c c ≡ []
-none_in c = rw (drop_itself c.to_agent, drop_itself c.to_master) refl
-
-none_between : (cs : List Channel) → sent_between cs cs ≡ []
-none_between [] = refl
-none_between (c ∷ cs) = rw (none_in c) (none_between cs)
-
-none_sides : (f : Side → Side) (cs : List Channel) → sent_between cs (map (with_side f) cs) ≡ []
-none_sides f [] = refl
-none_sides f (c ∷ cs) = rw (drop_itself c.to_agent, drop_itself c.to_master) (none_sides f cs)
 
 pub side_name : (run : Run) (s : Side) (step : SideStep) → (side_step run s step).side.name ≡ s.name
 side_name run s (MakeOffer offer) = cond_both (may_offer run s offer) (sends_nothing (record run { next_offer = following offer.id }) (record s { offers = s.offers ++ offer ∷ [] })) (sends_nothing run s) (λ x. x.side.name ≡ s.name) (λ e. refl) (λ e. refl)
@@ -82,7 +61,7 @@ mail_map name [] = refl
 mail_map name (m ∷ ms) = ap (λ xs. MailToAgent (record { agent = name; mail = m }) ∷ xs) (mail_map name ms)
 
 sent_here : (c : Channel) (run : Run) (step : SideStep) → sent_in c (by_master run c step).channel ≡ mails_to (map (λ (mail : MasterMail). record { agent = c.side.name; mail = mail }) (side_step run c.side step).sent)
-sent_here c run step = rw (drop_all c.to_agent (side_step run c.side step).sent, drop_itself c.to_master, side_name run c.side step) (append-nil (map (λ (mail : MasterMail). MailToAgent (record { agent = c.side.name; mail = mail })) (side_step run c.side step).sent) ∙ mail_map c.side.name (side_step run c.side step).sent)
+sent_here c run step = rw (drop-append_seam c.to_agent (side_step run c.side step).sent, drop-length c.to_master, side_name run c.side step) (append-nil (map (λ (mail : MasterMail). MailToAgent (record { agent = c.side.name; mail = mail })) (side_step run c.side step).sent) ∙ mail_map c.side.name (side_step run c.side step).sent)
 
 sent_at : (agent : List ℕ) (step : SideStep) (run : Run) (cs : List Channel) → sent_between cs (at_agent agent (ByMaster step) run cs).channels ≡ mails_to (at_side agent step run (sides_of cs)).sent
 sent_at agent step run [] = refl
@@ -147,7 +126,7 @@ receive_alone agent place run mail (c ∷ cs) x f e = by (bytes_eq c.side.name a
         let found_it : Some c ≡ Some x = rw d at g in
         let is : c ≡ x = cc in
         let here : slice_get c.to_master place ≡ Some mail = subst (λ (y : Channel). slice_get y.to_master place ≡ Some mail) (sym is) e in
-        rw d (rw here (refl, refl, rw (drop_itself c.to_agent, drop_itself c.to_master) (none_between cs)))
+        rw d (rw here (refl, refl, rw (drop-length c.to_agent, drop-length c.to_master) (none_between cs)))
     by false d g rest = let r = rest (rw d at g) in rw d (r.0, ap (λ ss. c.side ∷ ss) r.1, ap (λ xs. xs ++ sent_between cs (at_agent agent (Receive place) run cs).channels) (none_in c) ∙ r.2)
 
 -- the master after it hears a mail: its side has heard it, and then it moves

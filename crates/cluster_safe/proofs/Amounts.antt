@@ -12,24 +12,10 @@ use Rattle.messages.specs.declared.record.RecordedTask.{RecordedTask}
 use Rattle.cluster_model.specs.Agents.{has_ended, live_tasks}
 use Rattle.cluster_model.specs.Sides.{job_rows, offer_rows}
 use Rattle.cluster_safe.specs.Facts.{Within, live, task_stake, AtMost}
+use Rattle.quantity.proofs.Shared.{named}
 
 pub amount-append : (name : List ℕ) (xs ys : List Row) → amount name (xs ++ ys) ≡ amount name xs + amount name ys
 amount-append name xs ys = sum_by-append (part_of name) xs ys
-
--- what a test by each name tells of a name that stands among them
-named : (total rows part : List Row) (name : List ℕ) → list_all (λ row. nat_le (amount row.name rows) (amount row.name total)) part ≡ true → (amount name part ≡ 0) ⊎ (amount name rows ≤ amount name total)
-named total rows [] name h = inl refl
-named total rows (row ∷ part) name h = at_row (bytes_eq row.name name) refl (named total rows part name rest)
-  where
-    rest : list_all (λ row. nat_le (amount row.name rows) (amount row.name total)) part ≡ true
-    rest = grind (arith, nat_tests, h)
-
-    here : amount row.name rows ≤ amount row.name total
-    here = grind (arith, nat_tests, h)
-
-    at_row : (b : Bool) → bytes_eq row.name name ≡ b → (amount name part ≡ 0) ⊎ (amount name rows ≤ amount name total) → (amount name (row ∷ part) ≡ 0) ⊎ (amount name rows ≤ amount name total)
-    at_row true e ih = inr (subst (λ n. amount n rows ≤ amount n total) ((bytes_decides row.name name).0 e) here)
-    at_row false e ih = elim ih [ inl z ↦ inl (rw e z) | inr le ↦ inr le ]
 
 pub covers_is : (total rows : List Row) → covers total rows ≡ true → AtMost rows total
 covers_is total rows h name = elim (named total rows rows name h) [ inl e ↦ omega arith | inr le ↦ le ]

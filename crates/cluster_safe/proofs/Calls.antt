@@ -21,9 +21,9 @@ use Rattle.cluster_model.specs.Masters.{Framework, Master, Move, AtSide, TearDow
 use Rattle.cluster_model.specs.Calls.{frameworks_limit, to_list, subscribed, removed, resubscribed, is_unassigned, sides_with_tasks, on_teardown, answers_held, Given, good_side, given_by, passes_limits, accepts_all, accepted_from, on_accept, on_decline, on_revive, on_suppress, commanding, on_kill, is_last_received, on_acknowledge, on_reconcile, is_stream, on_its_stream, by_known, call_effect}
 use Rattle.cluster_safe.specs.Offered.{IsAmong}
 use Rattle.cluster_safe.specs.Origin.{Mark, Made, Used, Use, launched, use_of, marks_at, marks_in, jobs_of}
-use Rattle.cluster_safe.proofs.Orders.{each_append}
 use Rattle.cluster_safe.proofs.Silent.{QuietMove}
 use Rattle.cluster_safe.proofs.Quiet.{mapped_quiet, withdraws_quiet}
+use Rattle.names_core.proofs.Lists.{each-append}
 
 pub record OneLaunch (d : MasterEffect) : Type 0 where
   pub agent : List ℕ
@@ -57,7 +57,7 @@ resubscribed_alone m id role (Some f) = inl (withdraws_quiet (is_of id) m)
 
 teardown_alone : (m : Master) (f : Framework) → LaunchesAlone (on_teardown m f)
 teardown_alone m f = if_alone (list_any (λ s. not (has_numbers 1 s)) (sides_with_tasks m f.id)) (refused m LimitExceeded) torn (inl tt)
-    (inl (each_append QuietMove (withdraws (is_of f.id) m) (TearDownAll f.id ∷ map (λ s. AtSide s.name (SendEnd f.id)) (sides_with_tasks m f.id)) (withdraws_quiet (is_of f.id) m) (tt, mapped_quiet (λ (s : Side). AtSide s.name (SendEnd f.id)) (λ s. tt) (sides_with_tasks m f.id))))
+    (inl (each-append QuietMove (withdraws (is_of f.id) m) (TearDownAll f.id ∷ map (λ s. AtSide s.name (SendEnd f.id)) (sides_with_tasks m f.id)) (withdraws_quiet (is_of f.id) m) (tt, mapped_quiet (λ (s : Side). AtSide s.name (SendEnd f.id)) (λ s. tt) (sides_with_tasks m f.id))))
   where
     torn : MasterEffect
     torn = record { refusal = None; moves = withdraws (is_of f.id) m ++ TearDownAll f.id ∷ map (λ s. AtSide s.name (SendEnd f.id)) (sides_with_tasks m f.id); events = []; opens = []; closes = to_list f.stream; registers = with_framework m.registers (record f { stream = None }) }

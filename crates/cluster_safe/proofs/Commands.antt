@@ -7,7 +7,8 @@ use Rattle.messages.specs.declared.mail.Command.{Command}
 use Rattle.messages.specs.declared.mail.Command.TheVariants.{Launch, Kill, Ack, EndFramework}
 use Rattle.cluster_model.specs.Ids.{is_among}
 use Rattle.cluster_safe.specs.Facts.{TaskInFlight, Fades, launches, NotOf, EndsKept, Ordered, EndsTorn}
-use Rattle.cluster_safe.proofs.Orders.{each_append, jobs_faded}
+use Rattle.cluster_safe.proofs.Orders.{jobs_faded}
+use Rattle.names_core.proofs.Lists.{each-append}
 
 pub drop_get : (ws : List Command) (n : ℕ) (w : Command) → slice_get ws n ≡ Some w → drop n ws ≡ w ∷ drop (suc n) ws
 drop_get [] n w h = absurd cc
@@ -18,15 +19,6 @@ pub get_length : (ws : List Command) (n : ℕ) (w : Command) → slice_get ws n 
 get_length [] n w h = absurd cc
 get_length (v ∷ ws) zero w h = omega arith
 get_length (v ∷ ws) (suc n) w h = omega (arith, get_length ws n w h)
-
-pub get_more : {A : Type 0} (ws us : List A) (n : ℕ) (w : A) → slice_get ws n ≡ Some w → slice_get (ws ++ us) n ≡ Some w
-get_more [] us n w h = absurd cc
-get_more (v ∷ ws) us zero w h = h
-get_more (v ∷ ws) us (suc n) w h = get_more ws us n w h
-
-pub get_push : {A : Type 0} (ws : List A) (w : A) → slice_get (ws ++ w ∷ []) (length ws) ≡ Some w
-get_push [] w = refl
-get_push (v ∷ ws) w = get_push ws w
 
 pub launches-append : (ws us : List Command) → launches (ws ++ us) ≡ launches ws ++ launches us
 launches-append [] us = refl
@@ -60,7 +52,7 @@ ordered_more torn (Launch job offers ∷ ws) us h t k n = ordered_more torn ws u
 ordered_more torn (Kill key ∷ ws) us h t k n = ordered_more torn ws us h t k n
 ordered_more torn (Ack key i ∷ ws) us h t k n = ordered_more torn ws us h t k n
 ordered_more torn (EndFramework framework ∷ ws) us h t k n =
-    (rw (launches-append ws us) (each_append (λ s. s.job.framework ≢ framework) (launches ws) (launches us) h.0 (not_of_torn torn framework (launches us) t.0 n)), ordered_more torn ws us h.1 t.1 k n)
+    (rw (launches-append ws us) (each-append (λ s. s.job.framework ≢ framework) (launches ws) (launches us) h.0 (not_of_torn torn framework (launches us) t.0 n)), ordered_more torn ws us h.1 t.1 k n)
 
 pub ends_torn_more : (torn : List Numbered) (ws us : List Command) → EndsTorn torn ws → EndsTorn torn us → EndsTorn torn (ws ++ us)
 ends_torn_more torn [] us h k = k
@@ -111,4 +103,4 @@ ends_grown torn (suc n) (Launch job offers ∷ ws) xs new t k h = ends_grown tor
 ends_grown torn (suc n) (Kill key ∷ ws) xs new t k h = ends_grown torn n ws xs new t k h
 ends_grown torn (suc n) (Ack key i ∷ ws) xs new t k h = ends_grown torn n ws xs new t k h
 ends_grown torn (suc n) (EndFramework framework ∷ ws) xs new t k h =
-    (each_append (λ s. s.job.framework ≢ framework) xs new h.0 (not_of_torn torn framework new t.0 k), ends_grown torn n ws xs new t.1 k h.1)
+    (each-append (λ s. s.job.framework ≢ framework) xs new h.0 (not_of_torn torn framework new t.0 k), ends_grown torn n ws xs new t.1 k h.1)

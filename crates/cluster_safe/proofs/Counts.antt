@@ -8,8 +8,8 @@ use Rattle.names_core.specs.declared.state.TaskState.{TaskState}
 use Rattle.messages.specs.declared.record.RecordedTask.{RecordedTask}
 use Rattle.cluster_model.specs.Channels.{World, Happening, after, after_all}
 use Rattle.cluster_safe.specs.Updates.{longer, states_under, recorded_states, updates_over}
-use Rattle.cluster_safe.proofs.Ids.{same_refl}
-use Rattle.cluster_safe.proofs.Orders.{each_map}
+use Rattle.names_core.proofs.IdOrder.{same_itself}
+use Rattle.names_core.proofs.Lists.{each-map}
 
 -- lengths
 
@@ -30,7 +30,7 @@ count_more : (t : RecordedTask) (ts : List RecordedTask) → IsWithin (count ts)
 count_more t ts key = cond_both (same t.job.key key) (longer t.updates.states (states_under key ts)) (states_under key ts) (λ xs. length (states_under key ts) ≤ length xs) (λ e. longer_right t.updates.states (states_under key ts)) (λ e. omega arith)
 
 count_first : (t : RecordedTask) (ts : List RecordedTask) → length t.updates.states ≤ count (t ∷ ts) t.job.key
-count_first t ts = cond_both (same t.job.key t.job.key) (longer t.updates.states (states_under t.job.key ts)) (states_under t.job.key ts) (λ xs. length t.updates.states ≤ length xs) (λ e. longer_left t.updates.states (states_under t.job.key ts)) (λ e. absurd (let s = same_refl t.job.key in cc))
+count_first t ts = cond_both (same t.job.key t.job.key) (longer t.updates.states (states_under t.job.key ts)) (states_under t.job.key ts) (λ xs. length t.updates.states ≤ length xs) (λ e. longer_left t.updates.states (states_under t.job.key ts)) (λ e. absurd (let s = same_itself t.job.key in cc))
 
 -- each task has at most so many states
 abbrev pub Fills : (Numbered → ℕ) → RecordedTask → Type 0
@@ -38,7 +38,7 @@ Fills n t = length t.updates.states ≤ n t.job.key
 
 pub all_fill : (ts : List RecordedTask) → Each (Fills (count ts)) ts
 all_fill [] = tt
-all_fill (t ∷ ts) = (count_first t ts, each_map (Fills (count ts)) (Fills (count (t ∷ ts))) (λ u h. le_trans h (count_more t ts u.job.key)) ts (all_fill ts))
+all_fill (t ∷ ts) = (count_first t ts, each-map (Fills (count ts)) (Fills (count (t ∷ ts))) (λ u h. le_trans h (count_more t ts u.job.key)) ts (all_fill ts))
 
 -- over happenings
 

@@ -24,8 +24,9 @@ use Rattle.cluster_model.specs.Agents.{Agent, Draft, has_ended, is_task, front_a
 use Rattle.quantity.specs.declared.rows.Row.{Row}
 use Rattle.cluster_model.specs.Sides.{Run, Side, received, shut, side_step, last_session}
 use Rattle.cluster_model.specs.Channels.{Channel, Draw, DrawMail, Adopt, StopWithout, StopWith, drawn, drawn_mail, adopted, stopped_with, agent_step, ChannelStep, ByMaster, Receive, ByAgent, received_mail, happens, World, Happening, At, TearDown, Restart, Halt, behind, in_front, at_agent, with_side, after, after_all, open_channel}
-use Rattle.cluster_safe.proofs.Commands.{get_more}
-use Rattle.cluster_safe.proofs.Drafts.{AllOk, all_if, both_true, not_false, starts_ok}
+use Rattle.cluster_safe.proofs.Drafts.{AllOk, all_if, starts_ok}
+use Rattle.names_core.proofs.Lists.{slice_get-append}
+use Rattle.std.proofs.lemmas.Bool.{and_parts, not-false}
 
 -- the next command of the agent's session was sent to it
 abbrev pub IsNext : Agent → List MasterMail → Command → Type 0
@@ -53,7 +54,7 @@ command_comes : (a : Agent) (mails : List MasterMail) (place session number : �
 command_comes a mails place session number w at s n = inr (inr (w, (place, there), refl))
   where
     of : session ≡ a.durable.session
-    of = (Decides-eqb session a.durable.session).0 (both_true a.in_session (eqb session a.durable.session) s).1
+    of = (Decides-eqb session a.durable.session).0 (and_parts a.in_session (eqb session a.durable.session) s).1
 
     under : number ≡ suc a.applied
     under = (Decides-eqb number (suc a.applied)).0 n
@@ -69,7 +70,7 @@ mail_comes a mails place (Issued session number w) at =
     all_if (not (a.in_session && session == a.durable.session)) (Err OldSession) third (DraftComes a mails) (λ e. tt)
     (λ e. all_if (nat_le number a.applied) (Ok (record { after = a; mails = Applied a.durable.session a.applied ∷ [] })) second (DraftComes a mails) (λ d. inl refl)
     (λ d. all_if (not (number == suc a.applied)) (Err NotNext) first (DraftComes a mails) (λ f. tt)
-    (λ f. all_if (has_room a w) (Ok (applies a w)) (Err NoRoom) (DraftComes a mails) (λ b. command_comes a mails place session number w at (not_false (a.in_session && session == a.durable.session) e) (not_false (number == suc a.applied) f)) (λ b. tt))))
+    (λ f. all_if (has_room a w) (Ok (applies a w)) (Err NoRoom) (DraftComes a mails) (λ b. command_comes a mails place session number w at (not-false (a.in_session && session == a.durable.session) e) (not-false (number == suc a.applied) f)) (λ b. tt))))
   where
     first : Result Draft AgentRefusal
     first = if has_room a w then Ok (applies a w) else Err NoRoom
@@ -107,7 +108,7 @@ ChannelComes c = OpenComes c c.draft
 comes_more : (a : Agent) (mails more : List MasterMail) (ts : List RecordedTask) → Comes a mails ts → Comes a (mails ++ more) ts
 comes_more a mails more ts (inl e) = inl e
 comes_more a mails more ts (inr (inl s)) = inr (inl s)
-comes_more a mails more ts (inr (inr o)) = inr (inr (o.0, (o.1.0, get_more mails more o.1.0 (Issued a.durable.session (suc a.applied) o.0) o.1.1), o.2))
+comes_more a mails more ts (inr (inr o)) = inr (inr (o.0, (o.1.0, slice_get-append mails more o.1.0 (Issued a.durable.session (suc a.applied) o.0) o.1.1), o.2))
 
 open_more : (c : Channel) (s : Side) (more : List MasterMail) (o : Option Draft) → OpenComes c o → OpenComes (record c { side = s; to_agent = c.to_agent ++ more }) o
 open_more c s more None h = tt

@@ -28,20 +28,14 @@ use Rattle.cluster_model.specs.Ids.{last_number}
 use Rattle.cluster_model.specs.Agents.{Agent, Draft, has_ended, is_task, fronts, front_at, owning, reopened, reports, opens_next, opens_again, starts, stated, acknowledged, launched_task, put_task, tasks_after, is_front_at, fronts_after, with_tasks, after_command, applies, has_room, receives_mail, needs_place, next_of}
 use Rattle.cluster_model.specs.Channels.{InRun}
 use Rattle.cluster_safe.specs.Facts.{Less, TaskInFlight, Past, Fades, InOrder, task_stake, launches, coming, stakes, NotOf, EndsKept, Ordered, AtMost, StateOk, DownOk, IsReportOf, UpOk, drafted, mails_of, states_of, PastOk, Facts}
-use Rattle.cluster_safe.proofs.Ids.{same_refl}
 use Rattle.cluster_safe.proofs.Placed.{put_last}
-use Rattle.cluster_safe.proofs.Orders.{each_append, each_map, each_right, fades_refl, fades_append, stated_aged, acknowledged_aged, fades_kept, fades_mapped, fades_filtered}
+use Rattle.cluster_safe.proofs.Orders.{each_right, fades_refl, fades_append, stated_aged, acknowledged_aged, fades_kept, fades_mapped, fades_filtered}
 use Rattle.cluster_safe.proofs.Amounts.{covers_is}
 use Rattle.cluster_safe.proofs.Commands.{drop_get, get_length, ordered_drop, ends_faded, ends_take_more}
 use Rattle.cluster_safe.proofs.States.{Follows, ok_followed, follows_reopened, report_ok, fronts_ok, front_at_ok, applied_ok, DraftOk, follows_refl, retold_past, draft_retold}
-
-pub both_true : (x y : Bool) → (x && y) ≡ true → (x ≡ true) × (y ≡ true)
-both_true true y e = (refl, e)
-both_true false y e = absurd cc
-
-pub not_false : (x : Bool) → not x ≡ false → x ≡ true
-not_false true e = refl
-not_false false e = absurd cc
+use Rattle.names_core.proofs.IdOrder.{same_itself}
+use Rattle.names_core.proofs.Lists.{each-append, each-map}
+use Rattle.std.proofs.lemmas.Bool.{and_parts, not-false}
 
 told_before : (p : Past) (session run s : ℕ) → s ≤ session → (retold_past p session run).told s ≡ p.told s
 told_before p session run s le = cond_both (leb s session) (p.told s) run (λ n. n ≡ p.told s) (λ e. refl) (λ e. absurd (let h : session < s = grind (arith, nat_tests) in omega arith))
@@ -59,7 +53,7 @@ past_retold p session run past le most = record { none = past.none; ordered = pa
     by_place s u below (inr h) (inr k) = rw (told_before p session run s h, told_before p session run u k) (past.rises s u below)
 
 up_retold : (p : Past) (next : Numbered) (a : Agent) (more : List Agent) (run : ℕ) (m : AgentMail) → UpOk p next (a ∷ more) m → UpOk (retold_past p a.session run) next (a ∷ more) m
-up_retold p next a more run (Report session r tasks total) h = (told_before p a.session run session h.2.0.reached ∙ h.0, h.1, each_map (IsReportOf p session tasks total) (IsReportOf (retold_past p a.session run) session tasks total) (λ b k. record { reached = k.reached; owns = k.owns; same = k.same; covered = k.covered }) (a ∷ more) h.2)
+up_retold p next a more run (Report session r tasks total) h = (told_before p a.session run session h.2.0.reached ∙ h.0, h.1, each-map (IsReportOf p session tasks total) (IsReportOf (retold_past p a.session run) session tasks total) (λ b k. record { reached = k.reached; owns = k.owns; same = k.same; covered = k.covered }) (a ∷ more) h.2)
 up_retold p next a more run (Applied session count) h = h
 up_retold p next a more run (Update session key k state ended) h = h
 
@@ -78,8 +72,8 @@ facts_retold p l run f none le most = record {
   when_open = λ e. let o = f.when_open e in record { session = o.session; told = peak_same ∙ o.told; issued = o.issued; known = o.known; torn = o.torn; covered = o.covered };
   when_shut = λ e. let o = f.when_shut e in record { offers = o.offers; booked = o.booked; closed = rw peak_same o.closed };
   states = (state_retold p l.next_key l.total l.agent run s, subst (λ d. Each (StateOk (retold_past p l.agent.session run) l.next_key l.total) (drafted d)) (sym none) tt);
-  downs = each_map (DownOk p) (DownOk (retold_past p l.agent.session run)) (down_retold p l.agent.session run) l.to_agent f.downs;
-  ups = each_map (UpOk p l.next_key (states_of l)) (UpOk (retold_past p l.agent.session run) l.next_key (states_of l)) (up_retold p l.next_key l.agent (drafted l.draft) run) l.to_master f.ups;
+  downs = each-map (DownOk p) (DownOk (retold_past p l.agent.session run)) (down_retold p l.agent.session run) l.to_agent f.downs;
+  ups = each-map (UpOk p l.next_key (states_of l)) (UpOk (retold_past p l.agent.session run) l.next_key (states_of l)) (up_retold p l.next_key l.agent (drafted l.draft) run) l.to_master f.ups;
   pending = subst (λ d. Each (UpOk (retold_past p l.agent.session run) l.next_key (drafted d)) (mails_of d)) (sym none) tt;
 }
   where
@@ -178,14 +172,14 @@ none_of_framework framework (t ∷ ts) = cond_both (not (same t.job.framework fr
     (λ e. ((λ is. differ is e), none_of_framework framework ts)) (λ e. none_of_framework framework ts)
   where
     differ : t.job.framework ≡ framework → not (same t.job.framework framework) ≡ true → ⊥
-    differ is e = let alike : same t.job.framework framework ≡ true = subst (λ g. same t.job.framework g ≡ true) is (same_refl t.job.framework) in let n : false ≡ true = rw alike at e in cc
+    differ is e = let alike : same t.job.framework framework ≡ true = subst (λ g. same t.job.framework g ≡ true) is (same_itself t.job.framework) in let n : false ≡ true = rw alike at e in cc
 
 ends_command : (p : Past) (a : Agent) (w : Command) → PastOk p → a.in_session ≡ true → slice_get (p.ever a.session) a.applied ≡ Some w → EndsKept (w ∷ []) (stakes p (after_command a w))
 ends_command p a (Launch job offers) past up at_place = tt
 ends_command p a (Kill key) past up at_place = tt
 ends_command p a (Ack key k) past up at_place = tt
 ends_command p a (EndFramework framework) past up at_place = (
-  rw up (each_append (λ s. s.job.framework ≢ framework) (map task_stake (filter (λ t. not (same t.job.framework framework)) a.tasks)) (launches (drop (suc a.applied) (p.ever a.session)))
+  rw up (each-append (λ s. s.job.framework ≢ framework) (map task_stake (filter (λ t. not (same t.job.framework framework)) a.tasks)) (launches (drop (suc a.applied) (p.ever a.session)))
       (none_of_framework framework a.tasks) behind.0),
   tt,
 )
@@ -276,14 +270,14 @@ mail_ok p l (Hello run dead) f none h =
     later = if (nat_lt l.agent.run run || nat_le l.agent.session dead) || not l.agent.in_session then opens_next l.agent (max l.agent.session dead) run else Ok (reports l.agent)
 mail_ok p l (Issued session number what) f none h =
     all_if (not (l.agent.in_session && session == l.agent.session)) (Err OldSession) third (Draftable p.sent l) (λ e. tt)
-    (λ e. let both = both_true l.agent.in_session (eqb session l.agent.session) (not_false (l.agent.in_session && session == l.agent.session) e) in
+    (λ e. let both = and_parts l.agent.in_session (eqb session l.agent.session) (not-false (l.agent.in_session && session == l.agent.session) e) in
     let same : session ≡ l.agent.session = (Decides-eqb session l.agent.session).0 both.1 in
     let peak : l.agent.session ≤ p.peak = subst (λ s. s ≤ p.peak) same h.0 in
     all_if (nat_le number l.agent.applied) (Ok (record { after = l.agent; mails = Applied l.agent.session l.agent.applied ∷ [] })) second (Draftable p.sent l)
     (λ d. draft_same p l (Applied l.agent.session l.agent.applied ∷ []) f (applied_ok p l.next_key l.total l.agent peak both.0 f.states.0, tt))
     (λ d. all_if (not (number == suc l.agent.applied)) (Err NotNext) first (Draftable p.sent l) (λ c. tt)
     (λ c. all_if (has_room l.agent what) (Ok (applies l.agent what)) (Err NoRoom) (Draftable p.sent l)
-    (λ b. draft_command p l what f both.0 peak (at_place same ((Decides-eqb number (suc l.agent.applied)).0 (not_false (eqb number (suc l.agent.applied)) c))))
+    (λ b. draft_command p l what f both.0 peak (at_place same ((Decides-eqb number (suc l.agent.applied)).0 (not-false (eqb number (suc l.agent.applied)) c))))
     (λ b. tt))))
   where
     first : Result Draft AgentRefusal

@@ -40,7 +40,6 @@ use Rattle.cluster_safe.specs.Listed.{IsListed, MoveFrom, IsAcceptOf}
 use Rattle.cluster_safe.specs.Offered.{IsAmong}
 use Rattle.cluster_safe.specs.Origin.{Mark, Made, Used, Use, marks_at, marks_in, jobs_of, trail}
 use Rattle.cluster_safe.proofs.Histories.{trail_append}
-use Rattle.cluster_safe.proofs.Orders.{each_both, each_map}
 use Rattle.cluster_safe.proofs.Sources.{called_from}
 use Rattle.cluster_safe.specs.Entries.{Moment, noted, moments_from, moments}
 use Rattle.cluster_safe.specs.Sources.{IsSource, Traced}
@@ -50,6 +49,8 @@ use Rattle.cluster_safe.proofs.Silent.{Unmarked, Silent, unmarked, receives_sile
 use Rattle.cluster_safe.proofs.Quiet.{mailed_quiet, lost_quiet, hung_quiet}
 use Rattle.cluster_safe.proofs.Calls.{OneLaunch, LaunchesAlone, called_alone, StandsIn, IsUseOf, launch_marks_in, launch_alone}
 use Rattle.cluster_safe.proofs.Offers.{IsToldBy, round_told}
+use Rattle.cluster_model.proofs.Chains.{after_all-append}
+use Rattle.names_core.proofs.Lists.{each-map, each_both}
 
 -- a use is of offers of one channel, and its jobs are those of the Launches that its entry sent
 pub record FromSide (m : Moment) (u : Use) : Type 0 where
@@ -218,8 +219,8 @@ no_jobs ws m (Used u ∷ marks) h = absurd h.0
 round_sourced : (c : Cluster) (s : Marked) → s.step ≡ Allocate → Sourced c s (master_does c (allocated c.weights (master_of c)))
 round_sourced c s e = (
   refl,
-  each_map (IsToldBy c.weights (master_of c)) (IsSource moment) source marks (round_told c),
-  each_map (IsToldBy c.weights (master_of c)) (Stood moment) stood marks (round_told c),
+  each-map (IsToldBy c.weights (master_of c)) (IsSource moment) source marks (round_told c),
+  each-map (IsToldBy c.weights (master_of c)) (Stood moment) stood marks (round_told c),
   λ q. offers_send (round c.weights (master_of c)) c.world ∙ sym (no_jobs c.weights (master_of c) marks (round_told c)),
 )
   where
@@ -334,10 +335,6 @@ step_sourced c s = by_test c s (nat_le last_number c.entries) (Err HistoryFull) 
 
 -- histories
 
-pub after_append : (hs more : List Happening) (w : World) → after_all (hs ++ more) w ≡ after_all more (after_all hs w)
-after_append [] more w = refl
-after_append (h ∷ hs) more w = after_append hs more (after w h)
-
 record Goes (start : World) (h : History) (older : List Moment) : Type 0 where
   pub path : h.state.world ≡ after_all h.happenings start
   pub traced : Traced older (trail h.happenings start [])
@@ -345,7 +342,7 @@ record Goes (start : World) (h : History) (older : List Moment) : Type 0 where
 goes_on : (start : World) (h : History) (older : List Moment) (s : Marked) (r : Result Done ClusterFault) → Sourced h.state s r → Goes start h older → Goes start (extended h s.step r) (noted h.state s r older)
 goes_on start h older s (Err refusal) src goes = goes
 goes_on start h older s (Ok d) src goes = record {
-  path = src.0 ∙ (ap (after_all d.happenings) goes.path ∙ sym (after_append h.happenings d.happenings start));
+  path = src.0 ∙ (ap (after_all d.happenings) goes.path ∙ sym (after_all-append h.happenings d.happenings start));
   traced = (
     trail d.happenings h.state.world [],
     trail h.happenings start [],

@@ -23,11 +23,11 @@ use Rattle.cluster_model.specs.Masters.{Framework, Registers, Master, Move, AtSi
 use Rattle.cluster_model.specs.Calls.{frameworks_limit, new_stream, to_list, subscribed, removed, resubscribed, is_unassigned, sides_with_tasks, on_teardown, answers, answers_held, Given, good_side, given_by, Accepting, is_covered, launching, answering, accepts_as, accepts_one, accepts_all, passes_limits, accepted_as, accepted_from, on_accept, on_decline, on_revive, on_suppress, commanding, on_kill, is_last_received, on_acknowledge, is_live_of, is_awaited, reconciles_as, reconciles, on_reconcile, is_stream, on_its_stream, by_known, call_effect}
 use Rattle.cluster_model.specs.Mails.{judged, rescinds, loses, is_reported, session_opens, news_of, goes_with, mailed_as, mail_effect, is_due, beats, ticked, agent_lost, hung_up_by, hung_up}
 use Rattle.cluster_model.specs.Rounds.{entered, offer_events, offers_of, making, allocated}
-use Rattle.cluster_safe.proofs.Orders.{each_append}
 use Rattle.messages.specs.declared.call.Call.TheVariants.{Subscribe, Teardown, Accept, Decline, Revive, Suppress, Acknowledge, Reconcile}
 use Rattle.messages.specs.declared.call.Call.TheVariants as calls
 use Rattle.messages.specs.declared.mail.AgentMail.TheVariants.{Report, Applied, Update}
 use Rattle.messages.specs.declared.refusal.MasterRefusal.TheVariants.{OtherRun, OldSession, Closed, NotOpen, NotSubscribed, WrongStream, NoSuchFramework, LimitExceeded}
+use Rattle.names_core.proofs.Lists.{each-append}
 
 -- A holds of the agent, the key, the number and the state of each update that is told
 abbrev pub TellAt : (List ℕ → Numbered → ℕ → TaskState → Type 0) → Option (List ℕ) → Uuid → TaskState → Type 0
@@ -53,7 +53,7 @@ on_ok A (Some s) e h = (h, tt)
 
 flat_ok : {X : Type 0} (A : List ℕ → Numbered → ℕ → TaskState → Type 0) (g : X → List StreamEvent) → ((x : X) → Each (EventOk A) (g x)) → (xs : List X) → Each (EventOk A) (flat_map g xs)
 flat_ok A g f [] = tt
-flat_ok A g f (x ∷ xs) = each_append (EventOk A) (g x) (flat_map g xs) (f x) (flat_ok A g f xs)
+flat_ok A g f (x ∷ xs) = each-append (EventOk A) (g x) (flat_map g xs) (f x) (flat_ok A g f xs)
 
 tells_ok : (A : List ℕ → Numbered → ℕ → TaskState → Type 0) (m : Master) (framework : Numbered) (e : Event) → TellOk A e → Each (EventOk A) (events_to m framework e)
 tells_ok A m framework e h = on_ok A (stream_of (framework_of m framework)) e h
@@ -74,7 +74,7 @@ known_events A m stream None doing h = tt
 known_events A m stream (Some f) doing h = if_events A (is_torn m f.id) (refused m NoSuchFramework) (on_its_stream m stream f.stream (doing f)) tt (stream_events A m stream f.stream (doing f) (h f))
 
 subscribed_events : (A : List ℕ → Numbered → ℕ → TaskState → Type 0) (m : Master) (r : Registers) (id : Numbered) (role : List ℕ) (known : Option Framework) → Each (EventOk A) (subscribed m r id role known).events
-subscribed_events A m r id role known = each_append (EventOk A) (on_stream (stream_of known) failover_error) (on_stream (Some (new_stream m)) (events.Subscribed id)) (on_ok A (stream_of known) failover_error tt) (tt, tt)
+subscribed_events A m r id role known = each-append (EventOk A) (on_stream (stream_of known) failover_error) (on_stream (Some (new_stream m)) (events.Subscribed id)) (on_ok A (stream_of known) failover_error tt) (tt, tt)
 
 resubscribed_events : (A : List ℕ → Numbered → ℕ → TaskState → Type 0) (m : Master) (id : Numbered) (role : List ℕ) (o : Option Framework) → Each (EventOk A) (resubscribed m id role o).events
 resubscribed_events A m id role None = if_events A (nat_le frameworks_limit (length m.registers.frameworks)) (refused m LimitExceeded) (subscribed m m.registers id role None) tt (subscribed_events A m m.registers id role None)
@@ -87,10 +87,10 @@ commanding_events : (A : List ℕ → Numbered → ℕ → TaskState → Type 0)
 commanding_events A m s order = if_events A (may_have_numbers 1 s) (moving m (order ∷ [])) (refused m LimitExceeded) tt tt
 
 accepts_events : (A : List ℕ → Numbered → ℕ → TaskState → Type 0) (f : Framework) (g : Option Given) (x : Accepting) (t : TaskInfo) (o : Option Placed) → Each (EventOk A) x.events → Each (EventOk A) (accepts_as f g x t o).events
-accepts_events A f g x t (Some p) h = each_append (EventOk A) x.events (answers_held f p) h (answers_ok A f p.booked.job.name p.booked.state (Some p.agent))
-accepts_events A f None x t None h = each_append (EventOk A) x.events (answers f t.name Lost (Some t.agent)) h (answers_ok A f t.name Lost (Some t.agent))
+accepts_events A f g x t (Some p) h = each-append (EventOk A) x.events (answers_held f p) h (answers_ok A f p.booked.job.name p.booked.state (Some p.agent))
+accepts_events A f None x t None h = each-append (EventOk A) x.events (answers f t.name Lost (Some t.agent)) h (answers_ok A f t.name Lost (Some t.agent))
 accepts_events A f (Some g) x t None h = cond_both (is_covered g x.used t) (launching f g x t) (answering x (answers f t.name Error (Some t.agent))) (λ y. Each (EventOk A) y.events) (λ e. h)
-    (λ e. each_append (EventOk A) x.events (answers f t.name Error (Some t.agent)) h (answers_ok A f t.name Error (Some t.agent)))
+    (λ e. each-append (EventOk A) x.events (answers f t.name Error (Some t.agent)) h (answers_ok A f t.name Error (Some t.agent)))
 
 fold_events : (A : List ℕ → Numbered → ℕ → TaskState → Type 0) (f : Framework) (g : Option Given) (tasks : List TaskInfo) (x : Accepting) → Each (EventOk A) x.events → Each (EventOk A) (fold (accepts_one f g) x tasks).events
 fold_events A f g [] x h = h
@@ -142,7 +142,7 @@ loses_ok A m agent bs = flat_ok A (λ (b : Booked). if b.ended then [] else even
 
 goes_events : (A : List ℕ → Numbered → ℕ → TaskState → Type 0) (m : Master) (s : Side) (mail : AgentMail) → MailOk (A s.name) mail → Each (EventOk A) (goes_with m s mail).events
 goes_events A m s (Report session number tasks total) h = if_events A (opens m.run s session number) (session_opens m s tasks) (nothing m)
-    (each_append (EventOk A) (rescinds m s.offers) (loses m s.name (filter (λ b. not (is_reported tasks b)) s.booked)) (rescinds_ok A m s.offers) (loses_ok A m s.name (filter (λ b. not (is_reported tasks b)) s.booked))) tt
+    (each-append (EventOk A) (rescinds m s.offers) (loses m s.name (filter (λ b. not (is_reported tasks b)) s.booked)) (rescinds_ok A m s.offers) (loses_ok A m s.name (filter (λ b. not (is_reported tasks b)) s.booked))) tt
 goes_events A m s (Applied session count) h = tt
 goes_events A m s (Update session key k state ended) h = flat_ok A (news_of m s.name key k state)
     (λ b. told_if A (same b.job.key key && nat_le b.received (suc k)) (events_to m b.job.framework (update_event b.job.name state (Some s.name) (Some (record { key = key; k = k })))) [] (tells_ok A m b.job.framework (update_event b.job.name state (Some s.name) (Some (record { key = key; k = k }))) h) tt) s.booked
@@ -166,8 +166,8 @@ ticked_events A m now = flat_ok A (beats now) (λ f. told_if A (is_due now f) (o
 
 pub lost_events : (A : List ℕ → Numbered → ℕ → TaskState → Type 0) (m : Master) (s : Side) → Each (EventOk A) (agent_lost m s).events
 lost_events A m s = if_events A s.is_open (record { refusal = None; moves = AtSide s.name Lose ∷ AtSide s.name SendHello ∷ []; events = rescinds m s.offers ++ loses m s.name s.booked ++ events_to_all m.registers.frameworks (events.Failure s.name); opens = []; closes = []; registers = without_filters_on s.name m.registers }) (nothing m)
-    (each_append (EventOk A) (rescinds m s.offers ++ loses m s.name s.booked) (events_to_all m.registers.frameworks (events.Failure s.name))
-    (each_append (EventOk A) (rescinds m s.offers) (loses m s.name s.booked) (rescinds_ok A m s.offers) (loses_ok A m s.name s.booked))
+    (each-append (EventOk A) (rescinds m s.offers ++ loses m s.name s.booked) (events_to_all m.registers.frameworks (events.Failure s.name))
+    (each-append (EventOk A) (rescinds m s.offers) (loses m s.name s.booked) (rescinds_ok A m s.offers) (loses_ok A m s.name s.booked))
     (flat_ok A (λ (f : Framework). on_stream f.stream (events.Failure s.name)) (λ f. on_ok A f.stream (events.Failure s.name) tt) m.registers.frameworks)) tt
 
 pub hung_events : (A : List ℕ → Numbered → ℕ → TaskState → Type 0) (m : Master) (stream : Numbered) → Each (EventOk A) (hung_up m stream).events

@@ -28,9 +28,6 @@ use Rattle.cluster_safe.specs.Acknowledged.{Names, WasSent, WasCounted, recorded
 use Rattle.cluster_safe.specs.Honest.{IsNumbered, Tells, IsUpdateAmong, handed_in, IsHonestCall, IsHonestStep, Honest, has_number, noted, up_to, counted, acknowledged_by, IsKeyOf, IsBeginningOf}
 use Rattle.cluster_safe.specs.Updates.{longer, states_under, recorded_states, updates_of, AcknowledgeTheirs}
 use Rattle.cluster_safe.specs.Origin.{IsOneOf, jobs_of, trail}
-use Rattle.cluster_safe.proofs.Ids.{same_refl, same_is}
-use Rattle.cluster_safe.proofs.Orders.{each_append}
-use Rattle.cluster_safe.proofs.Drafts.{both_true}
 use Rattle.cluster_safe.proofs.Worlds.{all_room}
 use Rattle.cluster_safe.proofs.Events.{TellAt, TellOk, EventOk}
 use Rattle.cluster_safe.proofs.Counts.{longer_left, longer_right, count, over_more, over_append}
@@ -38,23 +35,15 @@ use Rattle.cluster_safe.proofs.OriginWorlds.{OriginOk}
 use Rattle.cluster_safe.proofs.Openings.{origin_opened}
 use Rattle.cluster_safe.proofs.Owners.{update_there}
 use Rattle.cluster_safe.proofs.Histories.{Legal, NotCall, Sends, AckedBy, Before, Tellable, updates_in, HandedOk, HistoryOk, all_tell, step_legal, extend_ok, jobs_grow, trail_append, number_tells, no_calls, once_same, history_ok, opening_ok}
+use Rattle.names_core.proofs.IdOrder.{same-is, same_itself}
+use Rattle.names_core.proofs.Lists.{each-append}
+use Rattle.std.proofs.Math.Bool.{or-true}
+use Rattle.std.proofs.lemmas.Bool.{and_parts, not-false, not-true}
 
 -- numbers in a list
 
 has_front : (xs ys : List ℕ) (k : ℕ) → has_number xs k ≡ true → has_number (xs ++ ys) k ≡ true
 has_front xs ys k h = rw (list_any-append (λ other. other == k) xs ys, h) refl
-
-or_true : (b : Bool) → (b || true) ≡ true
-or_true true = refl
-or_true false = refl
-
-not_true : (b : Bool) → not b ≡ true → b ≡ false
-not_true true h = absurd cc
-not_true false h = refl
-
-not_false : (b : Bool) → not b ≡ false → b ≡ true
-not_false true h = refl
-not_false false h = absurd cc
 
 has_one : (k : ℕ) → has_number (k ∷ []) k ≡ true
 has_one k = grind (arith, nat_tests)
@@ -63,7 +52,7 @@ is_one : (n k : ℕ) → has_number (n ∷ []) k ≡ true → n ≡ k
 is_one n k h = grind (arith, nat_tests)
 
 has_last : (xs : List ℕ) (k : ℕ) → has_number (xs ++ k ∷ []) k ≡ true
-has_last xs k = rw (list_any-append (λ other. other == k) xs (k ∷ []), has_one k) (or_true (has_number xs k))
+has_last xs k = rw (list_any-append (λ other. other == k) xs (k ∷ []), has_one k) (or-true (has_number xs k))
 
 has_split : (xs : List ℕ) (n k : ℕ) → has_number (xs ++ n ∷ []) k ≡ true → (has_number xs k ≡ true) ⊎ (n ≡ k)
 has_split xs n k h = elim (cases_Bool (has_number xs k)) [ inl e ↦ inl e | inr e ↦ inr (is_one n k (rw (list_any-append (λ other. other == k) xs (n ∷ []), e) at h)) ]
@@ -102,13 +91,13 @@ fold_keeps framework key (p ∷ posts) ks j h = fold_keeps framework key posts (
 noted_named : (framework key : Numbered) (ks : List ℕ) (post : Post) (k : ℕ) → Names framework key k post → has_number (noted framework key ks post) k ≡ true
 noted_named framework key ks (Called stream (Acknowledge f agent task uuid)) k h =
     cond_both (same f framework && same uuid.key key && not (has_number ks uuid.k)) (ks ++ uuid.k ∷ []) ks (λ xs. has_number xs k ≡ true) (λ e. subst (λ x. has_number (ks ++ uuid.k ∷ []) x ≡ true) h.2 (has_last ks uuid.k))
-    (λ e. subst (λ x. has_number ks x ≡ true) h.2 (not_false (has_number ks uuid.k) (rw (own, of_key) at e)))
+    (λ e. subst (λ x. has_number ks x ≡ true) h.2 (not-false (has_number ks uuid.k) (rw (own, of_key) at e)))
   where
     own : same f framework ≡ true
-    own = subst (λ x. same f x ≡ true) h.0 (same_refl f)
+    own = subst (λ x. same f x ≡ true) h.0 (same_itself f)
 
     of_key : same uuid.key key ≡ true
-    of_key = subst (λ x. same uuid.key x ≡ true) h.1 (same_refl uuid.key)
+    of_key = subst (λ x. same uuid.key x ≡ true) h.1 (same_itself uuid.key)
 noted_named framework key ks (Called stream (Subscribe f role)) k h = absurd h
 noted_named framework key ks (Called stream (Teardown f)) k h = absurd h
 noted_named framework key ks (Called stream (Accept f offers tasks seconds)) k h = absurd h
@@ -142,13 +131,13 @@ Ready framework key most ks post = (k : ℕ) → Names framework key k post → 
 
 noted_gapless : (framework key : Numbered) (most : ℕ) (ks : List ℕ) (post : Post) → Gapless most ks → Ready framework key most ks post → Gapless most (noted framework key ks post)
 noted_gapless framework key most ks (Called stream (Acknowledge f agent task uuid)) g ready =
-    cond_both (same f framework && same uuid.key key && not (has_number ks uuid.k)) (ks ++ uuid.k ∷ []) ks (Gapless most) (λ e. added (both_true (same f framework && same uuid.key key) (not (has_number ks uuid.k)) e)) (λ e. g)
+    cond_both (same f framework && same uuid.key key && not (has_number ks uuid.k)) (ks ++ uuid.k ∷ []) ks (Gapless most) (λ e. added (and_parts (same f framework && same uuid.key key) (not (has_number ks uuid.k)) e)) (λ e. g)
   where
     added : ((same f framework && same uuid.key key) ≡ true) × (not (has_number ks uuid.k) ≡ true) → Gapless most (ks ++ uuid.k ∷ [])
     added e =
-        let both = both_true (same f framework) (same uuid.key key) e.0 in
-        let told : ((j : ℕ) → j < uuid.k → has_number ks j ≡ true) × (uuid.k < most) = ready uuid.k (same_is f framework both.0, same_is uuid.key key both.1, refl) in
-        let none : has_number ks uuid.k ≡ false = not_true (has_number ks uuid.k) e.1 in
+        let both = and_parts (same f framework) (same uuid.key key) e.0 in
+        let told : ((j : ℕ) → j < uuid.k → has_number ks j ≡ true) × (uuid.k < most) = ready uuid.k (same-is f framework both.0, same-is uuid.key key both.1, refl) in
+        let none : has_number ks uuid.k ≡ false = not-true (has_number ks uuid.k) e.1 in
         let is : uuid.k ≡ g.0 = next_number g.0 uuid.k (λ j lt. subst (λ xs. has_number xs j ≡ true) g.1 (told.0 j lt)) (subst (λ xs. has_number xs uuid.k ≡ false) g.1 none) in
         (suc g.0, ap (λ xs. xs ++ uuid.k ∷ []) g.1 ∙ ap (λ n. up_to g.0 ++ n ∷ []) is, omega (arith, is, told.1))
 noted_gapless framework key most ks (Called stream (Subscribe f role)) g ready = g
@@ -174,7 +163,7 @@ posts_gapless S framework key most ks (Called stream call ∷ post ∷ more) g r
 
 counted_above : (key : Numbered) (k : ℕ) (ts : List RecordedTask) → WasCounted key k ts → k < counted key ts
 counted_above key k [] h = absurd h
-counted_above key k (t ∷ ts) (inl h) = cond_both (same t.job.key key) (max t.updates.acknowledged (counted key ts)) (counted key ts) (λ n. k < n) (λ e. (let lt = h.1 in omega arith)) (λ e. absurd (let s : same t.job.key key ≡ true = subst (λ x. same t.job.key x ≡ true) h.0 (same_refl t.job.key) in cc))
+counted_above key k (t ∷ ts) (inl h) = cond_both (same t.job.key key) (max t.updates.acknowledged (counted key ts)) (counted key ts) (λ n. k < n) (λ e. (let lt = h.1 in omega arith)) (λ e. absurd (let s : same t.job.key key ≡ true = subst (λ x. same t.job.key x ≡ true) h.0 (same_itself t.job.key) in cc))
 counted_above key k (t ∷ ts) (inr h) = (let lt = counted_above key k ts h in cond_both (same t.job.key key) (max t.updates.acknowledged (counted key ts)) (counted key ts) (λ n. k < n) (λ e. omega arith) (λ e. lt))
 
 pub counted_within : (key : Numbered) (ts : List RecordedTask) → Each (λ t. t.updates.acknowledged ≤ length t.updates.states) ts → counted key ts ≤ count ts key
@@ -212,7 +201,7 @@ was_told A B f key k (t ∷ ts) ok (inr h) = was_told A B f key k ts ok.1 h
 
 each_handed : (A : List ℕ → Numbered → ℕ → TaskState → Type 0) (es : List Entry) → Each (HandedOk A) es → Each (EventOk A) (handed_in es)
 each_handed A [] h = tt
-each_handed A (e ∷ es) h = each_append (EventOk A) (option_to_list e.outputs.taken) (handed_in es) (one e.outputs.taken h.0) (each_handed A es h.1)
+each_handed A (e ∷ es) h = each-append (EventOk A) (option_to_list e.outputs.taken) (handed_in es) (one e.outputs.taken h.0) (each_handed A es h.1)
   where
     one : (o : Option StreamEvent) → IfSome o (EventOk A) → Each (EventOk A) (option_to_list o)
     one None ok = tt

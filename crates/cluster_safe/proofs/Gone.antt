@@ -33,16 +33,18 @@ use Rattle.cluster_model.specs.Steps.{Done, happening_of, verdict_of, master_doe
 use Rattle.cluster_safe.specs.Facts.{Less}
 use Rattle.cluster_safe.specs.Offered.{IsAmong}
 use Rattle.cluster_safe.specs.Origin.{Mark, Made, Used, WasMade, marks_by}
-use Rattle.cluster_safe.proofs.Drafts.{both_true}
-use Rattle.cluster_safe.proofs.Ids.{same_is, same_refl, less_upto}
-use Rattle.cluster_safe.proofs.Orders.{each_append, each_map}
+use Rattle.cluster_safe.proofs.Ids.{less_upto}
 use Rattle.cluster_safe.proofs.Origins.{untouched_issue, untouched_all}
 use Rattle.cluster_safe.proofs.OriginWorlds.{ChannelOk, OriginOk, names_of, later_at, origin_all}
 use Rattle.cluster_safe.proofs.SideNames.{agent_side}
-use Rattle.cluster_safe.proofs.Trails.{OfferOk, each_kept, less_is_other, made_once}
+use Rattle.cluster_safe.proofs.Trails.{OfferOk, less_is_other, made_once}
 use Rattle.cluster_safe.proofs.Worlds.{below_next_run}
 use Rattle.cluster_safe.specs.Launches.{IsCurrent, Uses}
-use Rattle.cluster_safe.proofs.Lists.{each_among, each_those}
+use Rattle.cluster_safe.proofs.Lists.{each_among}
+use Rattle.cluster_safe.proofs.Shared.{each_among as each_those}
+use Rattle.names_core.proofs.IdOrder.{same-is, same_itself}
+use Rattle.names_core.proofs.Lists.{each-append, each-filter, each-map}
+use Rattle.std.proofs.lemmas.Bool.{and_parts}
 
 -- no offer has this id
 abbrev pub NoneOf : Numbered → List Offer → Type 0
@@ -59,10 +61,10 @@ command_gone id run s w h = subst (NoneOf id) (sym (untouched_issue (sends_nothi
 
 side_gone : (id : Numbered) (run : Run) (s : Side) (step : SideStep) → Less id run.next_offer → NoneOf id s.offers → NoneOf id (side_step run s step).side.offers
 side_gone id run s (MakeOffer o) lt h = cond_both (may_offer run s o) _ (sends_nothing run s) (λ (x : Sending). NoneOf id x.side.offers)
-    (λ e. each_append (λ (p : Offer). p.id ≢ id) s.offers (o ∷ []) h ((λ is. less_is_other id run.next_offer lt (sym is ∙ same_is o.id run.next_offer (both_true s.is_open (same o.id run.next_offer) (both_true (s.is_open && same o.id run.next_offer) (covers s.total (o.resources ++ taken s)) e).0).1)), tt)) (λ e. h)
-side_gone id run s (Withdraw ids) lt h = each_kept (λ (p : Offer). p.id ≢ id) (λ o. not (is_among ids o.id)) s.offers h
+    (λ e. each-append (λ (p : Offer). p.id ≢ id) s.offers (o ∷ []) h ((λ is. less_is_other id run.next_offer lt (sym is ∙ same-is o.id run.next_offer (and_parts s.is_open (same o.id run.next_offer) (and_parts (s.is_open && same o.id run.next_offer) (covers s.total (o.resources ++ taken s)) e).0).1)), tt)) (λ e. h)
+side_gone id run s (Withdraw ids) lt h = each-filter (λ (p : Offer). p.id ≢ id) (λ o. not (is_among ids o.id)) s.offers h
 side_gone id run s (LaunchFrom framework ids jobs) lt h = cond_both (is_good s framework ids && not (is_among run.torn framework)) _ (sends_nothing run s) (λ (x : Sending). NoneOf id x.side.offers)
-    (λ e. subst (NoneOf id) (sym (untouched_all framework ids (offer_rows (used_offers s framework ids)) jobs (record { used = []; sending = sends_nothing run (without_used s framework ids) })).offers) (each_kept (λ (p : Offer). p.id ≢ id) (λ o. not (is_named framework ids o)) s.offers h)) (λ e. h)
+    (λ e. subst (NoneOf id) (sym (untouched_all framework ids (offer_rows (used_offers s framework ids)) jobs (record { used = []; sending = sends_nothing run (without_used s framework ids) })).offers) (each-filter (λ (p : Offer). p.id ≢ id) (λ o. not (is_named framework ids o)) s.offers h)) (λ e. h)
 side_gone id run s (SendKill key) lt h = command_gone id run s (Kill key) h
 side_gone id run s (SendAck key k) lt h = command_gone id run s (Ack key k) h
 side_gone id run s (SendEnd framework) lt h = cond_both (is_among run.torn framework) (issue (sends_nothing run s) (EndFramework framework)) (sends_nothing run s) (λ (x : Sending). NoneOf id x.side.offers) (λ e. command_gone id run s (EndFramework framework) h) (λ e. h)
@@ -124,7 +126,7 @@ abbrev Located : Numbered → List ℕ → List Channel → Type 0
 Located id agent cs = Each (λ (c : Channel). Each (λ (p : Offer). p.id ≡ id → c.side.name ≡ agent) c.side.offers) cs
 
 not_here : (id : Numbered) (agent name : List ℕ) (os : List Offer) → name ≢ agent → Each (λ (p : Offer). p.id ≡ id → name ≡ agent) os → NoneOf id os
-not_here id agent name os d h = each_map (λ (p : Offer). p.id ≡ id → name ≡ agent) (λ (p : Offer). p.id ≢ id) (λ p f e. d (f e)) os h
+not_here id agent name os d h = each-map (λ (p : Offer). p.id ≡ id → name ≡ agent) (λ (p : Offer). p.id ≢ id) (λ p f e. d (f e)) os h
 
 others_clear : (id : Numbered) (agent : List ℕ) (cs : List Channel) → Each (λ n. n ≢ agent) (names_of cs) → Located id agent cs → Each (λ (c : Channel). NoneOf id c.side.offers) cs
 others_clear id agent [] d h = tt
@@ -161,7 +163,7 @@ among_kept : (test : Offer → Bool) (os : List Offer) (o : Offer) → IsAmong o
 among_kept test [] o k t = absurd k
 among_kept test (p ∷ os) o (inl e) t =
     let here : test p ≡ true = subst (λ (q : Offer). test q ≡ true) (sym e) t in
-    let id : same p.id o.id ≡ true = subst (λ (q : Offer). same p.id q.id ≡ true) e (same_refl p.id) in
+    let id : same p.id o.id ≡ true = subst (λ (q : Offer). same p.id q.id ≡ true) e (same_itself p.id) in
     rw here (rw id refl)
 among_kept test (p ∷ os) o (inr k) t =
     let rest = among_kept test os o k t in
@@ -216,19 +218,19 @@ good_has framework id [] e = absurd cc
 good_has framework id (o ∷ os) e = by (same o.framework framework && same o.id id) refl e (good_has framework id os)
   where
     by : (b : Bool) → (same o.framework framework && same o.id id) ≡ b → list_any (λ (p : Offer). same p.framework framework && same p.id id) (o ∷ os) ≡ true → (list_any (λ (p : Offer). same p.framework framework && same p.id id) os ≡ true → (p : Offer) × IsAmong p os × (p.id ≡ id)) → (p : Offer) × IsAmong p (o ∷ os) × (p.id ≡ id)
-    by true d k rest = (o, inl refl, same_is o.id id (both_true (same o.framework framework) (same o.id id) d).1)
+    by true d k rest = (o, inl refl, same-is o.id id (and_parts (same o.framework framework) (same o.id id) d).1)
     by false d k rest = let r = rest (rw d at k) in (r.0, inr r.1, r.2)
 
 all_true : (test : Numbered → Bool) (ids : List Numbered) (id : Numbered) → list_all test ids ≡ true → is_among ids id ≡ true → test id ≡ true
 all_true test [] id h k = absurd cc
-all_true test (x ∷ ids) id h k = by (same x id) refl k (all_true test ids id (both_true (test x) (list_all test ids) h).1)
+all_true test (x ∷ ids) id h k = by (same x id) refl k (all_true test ids id (and_parts (test x) (list_all test ids) h).1)
   where
     by : (b : Bool) → same x id ≡ b → is_among (x ∷ ids) id ≡ true → (is_among ids id ≡ true → test id ≡ true) → test id ≡ true
-    by true d k rest = subst (λ i. test i ≡ true) (same_is x id d) (both_true (test x) (list_all test ids) h).0
+    by true d k rest = subst (λ i. test i ≡ true) (same-is x id d) (and_parts (test x) (list_all test ids) h).0
     by false d k rest = rest (rw d at k)
 
 good_offer : (s : Side) (framework : Numbered) (ids : List Numbered) (id : Numbered) → is_good s framework ids ≡ true → is_among ids id ≡ true → (p : Offer) × IsAmong p s.offers × (p.id ≡ id)
-good_offer s framework ids id good a = good_has framework id s.offers (all_true (has_offer s framework) ids id (both_true (s.is_open && not (is_empty ids) && not (is_repeated ids)) (list_all (has_offer s framework) ids) good).1 a)
+good_offer s framework ids id good a = good_has framework id s.offers (all_true (has_offer s framework) ids id (and_parts (s.is_open && not (is_empty ids) && not (is_repeated ids)) (list_all (has_offer s framework) ids) good).1 a)
 
 unnamed_clear : (framework : Numbered) (ids : List Numbered) (o : Offer) (os : List Offer) → is_named framework ids o ≡ true → Each (λ (p : Offer). p.id ≡ o.id → p ≡ o) os → NoneOf o.id (filter (λ p. not (is_named framework ids p)) os)
 unnamed_clear framework ids o [] t h = tt
@@ -312,8 +314,8 @@ accept_spends rs c marks x o ids tasks seconds stream ok a k among = known_spend
     named : (f : Framework) → framework_of (master_of c) o.framework ≡ Some f → is_named f.id ids o ≡ true
     named f e =
         let own : same f.id o.framework ≡ true = (found_is (λ (g : Framework). same g.id o.framework) c.registers.frameworks f e).1 in
-        let is : f.id ≡ o.framework = same_is f.id o.framework own in
-        let front : same o.framework f.id ≡ true = subst (λ i. same o.framework i ≡ true) (sym is) (same_refl o.framework) in
+        let is : f.id ≡ o.framework = same-is f.id o.framework own in
+        let front : same o.framework f.id ≡ true = subst (λ i. same o.framework i ≡ true) (sym is) (same_itself o.framework) in
         rw front among
 
 -- what the answer to its step leaves

@@ -22,9 +22,10 @@ use Rattle.messages.specs.declared.refusal.AgentRefusal.TheVariants.{NotForMe, O
 use Rattle.cluster_model.specs.Ids.{last_number}
 use Rattle.cluster_model.specs.Agents.{Agent, Draft, has_ended, is_task, front_at, owning, reopened, reports, opens_next, starts, stated, acknowledged, launched_task, tasks_after, with_tasks, applies, has_room, receives_mail, needs_place, executes, next_of}
 use Rattle.cluster_safe.specs.Growth.{Continues, OnlyGrow}
-use Rattle.cluster_safe.proofs.Orders.{each_map}
 use Rattle.cluster_safe.proofs.Placed.{each_put}
 use Rattle.cluster_safe.proofs.Drafts.{AllOk, all_if, starts_ok}
+use Rattle.messages.proofs.Shared.{kept as filtered}
+use Rattle.names_core.proofs.Lists.{each-map}
 
 abbrev Old : List RecordedTask → RecordedTask → Type 0
 Old olds t = Continues olds t ⊎ (t.updates.states ≡ [])
@@ -39,18 +40,14 @@ later u olds t (inr e) = inr e
 -- tasks that are kept, each in its place
 mapped : (f : RecordedTask → RecordedTask) → ((t : RecordedTask) → Grows t (f t)) → (ts : List RecordedTask) → OnlyGrow ts (map f ts)
 mapped f g [] = tt
-mapped f g (t ∷ ts) = (inl (inl (g t)), each_map (Old ts) (Old (t ∷ ts)) (later t ts) (map f ts) (mapped f g ts))
+mapped f g (t ∷ ts) = (inl (inl (g t)), each-map (Old ts) (Old (t ∷ ts)) (later t ts) (map f ts) (mapped f g ts))
 
 same_task : (t : RecordedTask) → Grows t t
 same_task t = (refl, [], sym (append-nil t.updates.states))
 
 kept : (ts : List RecordedTask) → OnlyGrow ts ts
 kept [] = tt
-kept (t ∷ ts) = (inl (inl (same_task t)), each_map (Old ts) (Old (t ∷ ts)) (later t ts) ts (kept ts))
-
-filtered : (P : RecordedTask → Type 0) (keep : RecordedTask → Bool) (ts : List RecordedTask) → Each P ts → Each P (filter keep ts)
-filtered P keep [] h = tt
-filtered P keep (t ∷ ts) h = cond_both (keep t) (t ∷ filter keep ts) (filter keep ts) (Each P) (λ e. (h.0, filtered P keep ts h.1)) (λ e. filtered P keep ts h.1)
+kept (t ∷ ts) = (inl (inl (same_task t)), each-map (Old ts) (Old (t ∷ ts)) (later t ts) ts (kept ts))
 
 stated_grows : (key : Numbered) (state : TaskState) (t : RecordedTask) → Grows t (stated key state t)
 stated_grows key state t = cond_both (is_task key t && not (has_ended t)) (record { job = t.job; offers = t.offers; updates = updates.pushed state t.updates }) t (Grows t) (λ e. (refl, state ∷ [], refl)) (λ e. same_task t)

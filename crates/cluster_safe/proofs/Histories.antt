@@ -48,9 +48,6 @@ use Rattle.cluster_safe.specs.Facts.{HasRoom, RoomForAll}
 use Rattle.cluster_safe.specs.Acknowledged.{Names, WasSent, WasCounted, recorded_tasks, AcknowledgedByOwner}
 use Rattle.cluster_safe.specs.Saved.{IsFound}
 use Rattle.cluster_safe.specs.Origin.{Mark, Made, Used, marks_by, trail, IsOneOf, jobs_of, From, HasOrigin}
-use Rattle.cluster_safe.proofs.Ids.{same_is}
-use Rattle.cluster_safe.proofs.Orders.{each_append, each_map, each_both}
-use Rattle.cluster_safe.proofs.Drafts.{both_true}
 use Rattle.cluster_safe.proofs.Worlds.{Sents, world_opened, all_fit, all_room}
 use Rattle.cluster_safe.proofs.Sent.{Begins, MailAt, MailsIn, SentOk, get_begins, all_over, all_begin, sent_append, sent_alike, worlds_sent, opened_sent, IsExact, all_exact}
 use Rattle.cluster_safe.proofs.Told.{TaskTold, Carried, told_wider}
@@ -68,12 +65,15 @@ use Rattle.cluster_safe.specs.Premises.{MeetsPremises}
 use Rattle.cluster_safe.proofs.Premises.{all_premises}
 use Rattle.cluster_model.specs.Steps.{Effect, new_to_agent, new_to_master, places, posts_between, posts_by, posts_in, events_on, receives, new_stream, streams_after, takes_one}
 use Rattle.cluster_safe.proofs.Events.{TellAt, TellOk, EventOk, MailOk, allocated_events, called_events, event_wider, hung_events, lost_events, mailed_events, ticked_events}
-use Rattle.cluster_safe.proofs.Orders.{each_at}
 use Rattle.std.proofs.Common.{le_trans, le_refl}
 use Rattle.messages.specs.declared.mail.AgentMail.TheVariants.{Report, Applied}
 use Rattle.messages.specs.declared.mail.AgentMail.TheVariants as mails
 use Rattle.cluster_safe.specs.Updates.{updates_of, states_on, sent_over, updates_on, IsUpdateOf, HasUpdateOf, SendsUpdates, HandsUpdates, HaveAllUpdates}
 use Rattle.cluster_safe.proofs.Told.{UpTold}
+use Rattle.cluster_model.proofs.Chains.{after_all-append}
+use Rattle.names_core.proofs.IdOrder.{same-is}
+use Rattle.names_core.proofs.Lists.{each-append, each-map, each_at, each_both}
+use Rattle.std.proofs.lemmas.Bool.{and_parts}
 
 -- a found one has what each has
 found : {A : Type 0} (P : A → Type 0) (test : A → Bool) (Q : Option A → Type 0) → Q None → ((x : A) → P x → Q (Some x)) → (xs : List A) → Each P xs → Q (find test xs)
@@ -128,28 +128,28 @@ ups_no_calls agent (n ∷ ns) = (tt, ups_no_calls agent ns)
 between_no_calls : (olds news : List Channel) → Each NotCall (posts_between olds news)
 between_no_calls [] news = tt
 between_no_calls (old ∷ olds) [] = tt
-between_no_calls (old ∷ olds) (new ∷ news) = each_append NotCall (posts_in old new) (posts_between olds news)
-    (each_append NotCall (map (Down new.side.name) (places (length old.to_agent) (new_to_agent old new))) (map (Up new.side.name) (places (length old.to_master) (new_to_master old new))) (downs_no_calls new.side.name (places (length old.to_agent) (new_to_agent old new))) (ups_no_calls new.side.name (places (length old.to_master) (new_to_master old new))))
+between_no_calls (old ∷ olds) (new ∷ news) = each-append NotCall (posts_in old new) (posts_between olds news)
+    (each-append NotCall (map (Down new.side.name) (places (length old.to_agent) (new_to_agent old new))) (map (Up new.side.name) (places (length old.to_master) (new_to_master old new))) (downs_no_calls new.side.name (places (length old.to_agent) (new_to_agent old new))) (ups_no_calls new.side.name (places (length old.to_master) (new_to_master old new))))
     (between_no_calls olds news)
 
 pub no_calls : (hs : List Happening) (w : World) → Each NotCall (posts_by hs w)
 no_calls [] w = tt
-no_calls (h ∷ hs) w = each_append NotCall (posts_between w.channels (after w h).channels) (posts_by hs (after w h)) (between_no_calls w.channels (after w h).channels) (no_calls hs (after w h))
+no_calls (h ∷ hs) w = each-append NotCall (posts_between w.channels (after w h).channels) (posts_by hs (after w h)) (between_no_calls w.channels (after w h).channels) (no_calls hs (after w h))
 
 told_on_ok : (T : List ℕ → Numbered → ℕ → TaskState → Type 0) (id : Numbered) (ts : List StreamEvent) → Each (EventOk T) ts → Each (TellOk T) (events_on id ts)
 told_on_ok T id [] h = tt
-told_on_ok T id (t ∷ ts) h = each_append (TellOk T) (if same t.stream id then t.event ∷ [] else []) (events_on id ts) (cond_both (same t.stream id) (t.event ∷ []) [] (Each (TellOk T)) (λ e. (h.0, tt)) (λ e. tt)) (told_on_ok T id ts h.1)
+told_on_ok T id (t ∷ ts) h = each-append (TellOk T) (if same t.stream id then t.event ∷ [] else []) (events_on id ts) (cond_both (same t.stream id) (t.event ∷ []) [] (Each (TellOk T)) (λ e. (h.0, tt)) (λ e. tt)) (told_on_ok T id ts h.1)
 
 received_ok : (T : List ℕ → Numbered → ℕ → TaskState → Type 0) (ts : List StreamEvent) (ss : List Stream) → Each (EventOk T) ts → Each (StreamOk T) ss → Each (StreamOk T) (map (receives ts) ss)
 received_ok T ts [] h k = tt
-received_ok T ts (s ∷ ss) h k = (each_append (TellOk T) s.events (events_on s.id ts) k.0 (told_on_ok T s.id ts h), received_ok T ts ss h k.1)
+received_ok T ts (s ∷ ss) h k = (each-append (TellOk T) s.events (events_on s.id ts) k.0 (told_on_ok T s.id ts h), received_ok T ts ss h k.1)
 
 new_ok : (T : List ℕ → Numbered → ℕ → TaskState → Type 0) (ids : List Numbered) → Each (StreamOk T) (map new_stream ids)
 new_ok T [] = tt
 new_ok T (id ∷ ids) = (tt, new_ok T ids)
 
 streams_ok : (T : List ℕ → Numbered → ℕ → TaskState → Type 0) (ss : List Stream) (opens : List Numbered) (ts : List StreamEvent) → Each (EventOk T) ts → Each (StreamOk T) ss → Each (StreamOk T) (streams_after ss opens ts)
-streams_ok T ss opens ts h k = received_ok T ts (ss ++ map new_stream opens) h (each_append (StreamOk T) ss (map new_stream opens) k (new_ok T opens))
+streams_ok T ss opens ts h k = received_ok T ts (ss ++ map new_stream opens) h (each-append (StreamOk T) ss (map new_stream opens) k (new_ok T opens))
 
 taken_ok : (T : List ℕ → Numbered → ℕ → TaskState → Type 0) (id : Numbered) (ss : List Stream) → Each (StreamOk T) ss → Each (StreamOk T) (map (takes_one id) ss)
 taken_ok T id [] h = tt
@@ -315,10 +315,6 @@ step_legal A T S c rooms acks acked s sends = by_test A T S c (nat_le last_numbe
 
 -- histories
 
-pub after_append : (hs more : List Happening) (w : World) → after_all (hs ++ more) w ≡ after_all more (after_all hs w)
-after_append [] more w = refl
-after_append (h ∷ hs) more w = after_append hs more (after w h)
-
 pub trail_append : (hs more : List Happening) (w : World) (marks : List Mark) → trail (hs ++ more) w marks ≡ trail more (after_all hs w) (trail hs w marks)
 trail_append [] more w marks = refl
 trail_append (h ∷ hs) more w marks = trail_append hs more (after w h) (marks_by w h ++ marks)
@@ -355,7 +351,7 @@ find_is id [] f e = absurd cc
 find_is id (g ∷ fs) f e = by (same g.id id) refl e (find_is id fs f)
   where
     by : (t : Bool) → same g.id id ≡ t → find (λ (g : Framework). same g.id id) (g ∷ fs) ≡ Some f → (find (λ (g : Framework). same g.id id) fs ≡ Some f → f.id ≡ id) → f.id ≡ id
-    by true d k rest = (let found_it : Some g ≡ Some f = rw d at k in let is : g ≡ f = cc in subst (λ (x : Framework). x.id ≡ id) is (same_is g.id id d))
+    by true d k rest = (let found_it : Some g ≡ Some f = rw d at k in let is : g ≡ f = cc in subst (λ (x : Framework). x.id ≡ id) is (same-is g.id id d))
     by false d k rest = rest (rw d at k)
 
 sent_at : (posts : List Post) (n : ℕ) (stream : Option Numbered) (framework : Numbered) (agent task : List ℕ) (uuid : Update) → slice_get posts n ≡ Some (Called stream (Acknowledge framework agent task uuid)) → WasSent framework uuid.key uuid.k posts
@@ -381,8 +377,8 @@ booked_placed P s h = each_of_map s.booked h
 placed_from : (rs : List RecordParts) (run : Run) (marks : List Mark) (cs : List Channel) → Each (ChannelOk rs run marks) cs → Each (λ p. IsOneOf p.booked.job (jobs_of marks ++ recorded_jobs rs)) (flat_map placed_on (sides_of cs))
 placed_from rs run marks [] h = tt
 placed_from rs run marks (c ∷ cs) h =
-    each_append (λ p. IsOneOf p.booked.job (jobs_of marks ++ recorded_jobs rs)) (placed_on c.side) (flat_map placed_on (sides_of cs))
-    (booked_placed (λ j. IsOneOf j (jobs_of marks ++ recorded_jobs rs)) c.side (each_map (λ b. From rs c.side.name marks b.job) (λ b. IsOneOf b.job (jobs_of marks ++ recorded_jobs rs)) (λ b k. all_from rs marks c.side.name b.job k) c.side.booked h.0.1.booked))
+    each-append (λ p. IsOneOf p.booked.job (jobs_of marks ++ recorded_jobs rs)) (placed_on c.side) (flat_map placed_on (sides_of cs))
+    (booked_placed (λ j. IsOneOf j (jobs_of marks ++ recorded_jobs rs)) c.side (each-map (λ b. From rs c.side.name marks b.job) (λ b. IsOneOf b.job (jobs_of marks ++ recorded_jobs rs)) (λ b k. all_from rs marks c.side.name b.job k) c.side.booked h.0.1.booked))
     (placed_from rs run marks cs h.1)
 
 ack_tells : (rs : List RecordParts) (c : Cluster) (marks : List Mark) → OriginOk rs c.world marks → (n : ℕ) (stream : Option Numbered) (framework : Numbered) (agent task : List ℕ) (uuid : Update) → slice_get c.posts n ≡ Some (Called stream (Acknowledge framework agent task uuid)) →
@@ -394,19 +390,19 @@ ack_tells rs c marks ok n stream framework agent task uuid at f is any =
     p = any_placed (λ q. IsOneOf q.booked.job (jobs_of marks ++ recorded_jobs rs)) (is_last_received f agent task uuid.key uuid.k) (all_booked (master_of c)) (placed_from rs c.world.run marks c.world.channels ok.channels) any
 
     first : ((same p.0.booked.job.key uuid.key && is_task_of f.id task p.0 && bytes_eq p.0.agent agent) ≡ true) × ((p.0.booked.received == suc uuid.k) ≡ true)
-    first = both_true (same p.0.booked.job.key uuid.key && is_task_of f.id task p.0 && bytes_eq p.0.agent agent) (p.0.booked.received == suc uuid.k) p.2
+    first = and_parts (same p.0.booked.job.key uuid.key && is_task_of f.id task p.0 && bytes_eq p.0.agent agent) (p.0.booked.received == suc uuid.k) p.2
 
     second : ((same p.0.booked.job.key uuid.key && is_task_of f.id task p.0) ≡ true) × (bytes_eq p.0.agent agent ≡ true)
-    second = both_true (same p.0.booked.job.key uuid.key && is_task_of f.id task p.0) (bytes_eq p.0.agent agent) first.0
+    second = and_parts (same p.0.booked.job.key uuid.key && is_task_of f.id task p.0) (bytes_eq p.0.agent agent) first.0
 
     third : (same p.0.booked.job.key uuid.key ≡ true) × (is_task_of f.id task p.0 ≡ true)
-    third = both_true (same p.0.booked.job.key uuid.key) (is_task_of f.id task p.0) second.0
+    third = and_parts (same p.0.booked.job.key uuid.key) (is_task_of f.id task p.0) second.0
 
     key : p.0.booked.job.key ≡ uuid.key
-    key = same_is p.0.booked.job.key uuid.key third.0
+    key = same-is p.0.booked.job.key uuid.key third.0
 
     own : p.0.booked.job.framework ≡ f.id
-    own = same_is p.0.booked.job.framework f.id (both_true (same p.0.booked.job.framework f.id) (bytes_eq p.0.booked.job.name task) third.1).0
+    own = same-is p.0.booked.job.framework f.id (and_parts (same p.0.booked.job.framework f.id) (bytes_eq p.0.booked.job.name task) third.1).0
 
 call_tells : (rs : List RecordParts) (c : Cluster) (marks : List Mark) → OriginOk rs c.world marks → AllUpTo c.world.run.number c.registers.frameworks → (n : ℕ) (stream : Option Numbered) (call : Call) → slice_get c.posts n ≡ Some (Called stream call) → CallOk (AckedBy rs marks c.posts) c.world.run.number (master_of c) call
 call_tells rs c marks ok known n stream (Subscribe id role) e = tt
@@ -460,7 +456,7 @@ pub record HistoryOk (records : List RecordParts) (start : World) (h : History) 
   pub launches : AllFrom h.state.world
 
 events_wider : (A B : List ℕ → Numbered → ℕ → TaskState → Type 0) → ((agent : List ℕ) (key : Numbered) (k : ℕ) (state : TaskState) → A agent key k state → B agent key k state) → (ts : List StreamEvent) → Each (EventOk A) ts → Each (EventOk B) ts
-events_wider A B f ts h = each_map (EventOk A) (EventOk B) (λ t k. event_wider A B f t.event k) ts h
+events_wider A B f ts h = each-map (EventOk A) (EventOk B) (λ t k. event_wider A B f t.event k) ts h
 
 taken_wider : (A B : List ℕ → Numbered → ℕ → TaskState → Type 0) → ((agent : List ℕ) (key : Numbered) (k : ℕ) (state : TaskState) → A agent key k state → B agent key k state) → (o : Option StreamEvent) → IfSome o (EventOk A) → IfSome o (EventOk B)
 taken_wider A B f None h = tt
@@ -474,17 +470,17 @@ acked_grown records start h d more path posts key k x =
 
 extended_ok : (records : List RecordParts) (start : World) (S : Option Numbered → Call → Type 0) (h : History) (step : Step) (r : Result Done ClusterFault) → Legal (AckedBy records (trail h.happenings start []) h.state.posts) (Tellable records start h.happenings h.state.posts) S h.state r → HistoryOk records start h → HistoryOk records start (extended h step r)
 extended_ok records start S h step (Ok d) l ok = record {
-  path = l.0 ∙ (ap (after_all d.happenings) ok.path ∙ sym (after_append h.happenings d.happenings start));
+  path = l.0 ∙ (ap (after_all d.happenings) ok.path ∙ sym (after_all-append h.happenings d.happenings start));
   sent = subst (SentOk (updates_in start (h.happenings ++ d.happenings))) (sym l.0) (sent_alike (all_over (updates_in start h.happenings) d.happenings h.state.world) (updates_in start (h.happenings ++ d.happenings)) (after_all d.happenings h.state.world) sent_joins (worlds_sent records d.happenings h.state.world marks (updates_in start h.happenings) ok.origin ok.sent));
-  verdicts = each_append (λ (e : Entry). NotNoRoom e.verdict) h.entries (entry_of step d ∷ []) ok.verdicts (l.1, tt);
+  verdicts = each-append (λ (e : Entry). NotNoRoom e.verdict) h.entries (entry_of step d ∷ []) ok.verdicts (l.1, tt);
   origin = subst (OriginOk records d.after.world) trails (subst (λ w. OriginOk records w (trail d.happenings h.state.world marks)) (sym l.0) (origin_all records d.happenings h.state.world marks ok.origin));
   acked = subst (λ ms. AllAcked (AckedBy records ms d.after.posts) d.after.world) trails (subst (λ ps. AllAcked (AckedBy records (trail d.happenings h.state.world marks) ps) d.after.world) (sym l.4.1)
       (subst (AllAcked (AckedBy records (trail d.happenings h.state.world marks) (h.state.posts ++ l.4.0))) (sym l.0) wider));
   begun = events_wider now later widened h.opened.events ok.begun;
-  told = each_append (EntryOk later) h.entries (entry_of step d ∷ []) (each_map (EntryOk now) (EntryOk later) (λ e k. events_wider now later widened e.outputs.events k) h.entries ok.told) (events_wider now later widened d.outputs.events l.3, tt);
-  streams = each_map (StreamOk now) (StreamOk later) (λ s k. each_map (TellOk now) (TellOk later) (λ e x. event_wider now later widened e x) s.events k) d.after.streams (l.5 ok.streams).0;
-  handed = each_append (HandedOk later) h.entries (entry_of step d ∷ []) (each_map (HandedOk now) (HandedOk later) (λ e k. taken_wider now later widened e.outputs.taken k) h.entries ok.handed) (taken_wider now later widened d.outputs.taken (l.5 ok.streams).1, tt);
-  known = subst (λ w. AllUpTo w.run.number d.after.registers.frameworks) (sym l.0) (each_map (IsUpTo h.state.world.run.number) (IsUpTo (after_all d.happenings h.state.world).run.number) (λ f k. le_trans k (number_rises d.happenings h.state.world)) d.after.registers.frameworks (l.6 ok.known));
+  told = each-append (EntryOk later) h.entries (entry_of step d ∷ []) (each-map (EntryOk now) (EntryOk later) (λ e k. events_wider now later widened e.outputs.events k) h.entries ok.told) (events_wider now later widened d.outputs.events l.3, tt);
+  streams = each-map (StreamOk now) (StreamOk later) (λ s k. each-map (TellOk now) (TellOk later) (λ e x. event_wider now later widened e x) s.events k) d.after.streams (l.5 ok.streams).0;
+  handed = each-append (HandedOk later) h.entries (entry_of step d ∷ []) (each-map (HandedOk now) (HandedOk later) (λ e k. taken_wider now later widened e.outputs.taken k) h.entries ok.handed) (taken_wider now later widened d.outputs.taken (l.5 ok.streams).1, tt);
+  known = subst (λ w. AllUpTo w.run.number d.after.registers.frameworks) (sym l.0) (each-map (IsUpTo h.state.world.run.number) (IsUpTo (after_all d.happenings h.state.world).run.number) (λ f k. le_trans k (number_rises d.happenings h.state.world)) d.after.registers.frameworks (l.6 ok.known));
   launches = subst AllFrom (sym l.0) (worlds_from (AckedBy records marks h.state.posts) h.state.world.run.number records d.happenings h.state.world marks (le_refl h.state.world.run.number) l.2 ok.origin ok.launches);
 }
   where
@@ -513,7 +509,7 @@ extended_ok records start S h step (Ok d) l ok = record {
     widened agent key k state x = ((λ j lt. grown key j (x.0 j lt)), get_begins (updates_on agent key h.happenings start) (updates_on agent key (h.happenings ++ d.happenings) start) k state (sent_grown agent key) x.1)
 
     wider : AllAcked (AckedBy records (trail d.happenings h.state.world (trail h.happenings start [])) (h.state.posts ++ l.4.0)) (after_all d.happenings h.state.world)
-    wider = each_map (Carried Always (AckedBy records marks h.state.posts)) (Carried Always (AckedBy records (trail d.happenings h.state.world marks) (h.state.posts ++ l.4.0)))
+    wider = each-map (Carried Always (AckedBy records marks h.state.posts)) (Carried Always (AckedBy records (trail d.happenings h.state.world marks) (h.state.posts ++ l.4.0)))
         (λ c k. told_wider Always Always (AckedBy records marks h.state.posts) (AckedBy records (trail d.happenings h.state.world marks) (h.state.posts ++ l.4.0)) (λ j x. x) (λ key i x. acked_more records d.happenings h.state.world marks h.state.posts l.4.0 key i x) c k)
         (after_all d.happenings h.state.world).channels (worlds_acked (AckedBy records marks h.state.posts) h.state.world.run.number d.happenings h.state.world l.2 ok.acked)
 extended_ok records start S h step (Err refusal) l ok = ok
@@ -556,7 +552,7 @@ channels_acked records posts (d ∷ ds) f g = (
 )
 
 opening_acked : (setup : Setup) (records : List RecordParts) → AllAcked (AckedBy records (trail (opening setup records).happenings (open_world setup.run records) []) (opening setup records).state.posts) (opening setup records).state.world
-opening_acked setup records = each_map (Carried Always (AckedBy records [] [])) (Carried Always (AckedBy records (trail hs (open_world setup.run records) []) (opening setup records).state.posts))
+opening_acked setup records = each-map (Carried Always (AckedBy records [] [])) (Carried Always (AckedBy records (trail hs (open_world setup.run records) []) (opening setup records).state.posts))
     (λ c k. told_wider Always Always (AckedBy records [] []) (AckedBy records (trail hs (open_world setup.run records) []) (opening setup records).state.posts) (λ j x. x) (λ key i x. acked_more records hs (open_world setup.run records) [] [] (opening setup records).state.posts key i x) c k)
     (opening setup records).state.world.channels (worlds_acked (AckedBy records [] []) setup.run hs (open_world setup.run records) (hellos_ok (AckedBy records [] []) setup.run (open_world setup.run records).channels) (channels_acked records [] records (λ j h. h) (λ key k h. h)))
   where
@@ -590,7 +586,7 @@ pub history_fits : (setup : Setup) (records : List RecordParts) (steps : List Ma
 history_fits setup records steps good = all_fit (updates_in (open_world setup.run records) (history setup records steps).happenings) (history setup records steps).state.world (history_ok setup records steps good).sent.world
 
 pub history_has_room : (setup : Setup) (records : List RecordParts) (steps : List Marked) → GoodOpening setup.run records → Each (λ (e : Entry). e.verdict ≢ AgentRefused NoRoom) (history setup records steps).entries
-history_has_room setup records steps good = each_map (λ (e : Entry). NotNoRoom e.verdict) (λ (e : Entry). e.verdict ≢ AgentRefused NoRoom) (λ e h. no_lack e.verdict h) (history setup records steps).entries (history_ok setup records steps good).verdicts
+history_has_room setup records steps good = each-map (λ (e : Entry). NotNoRoom e.verdict) (λ (e : Entry). e.verdict ≢ AgentRefused NoRoom) (λ e h. no_lack e.verdict h) (history setup records steps).entries (history_ok setup records steps good).verdicts
 
 pub history_origin : (setup : Setup) (records : List RecordParts) (steps : List Marked) → GoodOpening setup.run records → HasOrigin records (history setup records steps).state.world (trail (history setup records steps).happenings (open_world setup.run records) [])
 history_origin setup records steps good = has_origin records (history setup records steps).state.world (trail (history setup records steps).happenings (open_world setup.run records) []) (history_ok setup records steps good).origin
@@ -661,17 +657,17 @@ abbrev pub IsTelling : Setup → List RecordParts → List Marked → StreamEven
 IsTelling setup records steps t = HasUpdateOf (history setup records steps).happenings (open_world setup.run records) t.event
 
 all_telling : (setup : Setup) (records : List RecordParts) (steps : List Marked) → GoodOpening setup.run records → (ts : List StreamEvent) → Each (EventOk (ToldOver setup records steps)) ts → Each (IsTelling setup records steps) ts
-all_telling setup records steps good ts h = each_map (EventOk (ToldOver setup records steps)) (IsTelling setup records steps) (λ t x. event_tells records (open_world setup.run records) (history setup records steps).happenings (history setup records steps).state.posts (origin_opened setup.run records good) t.event x) ts h
+all_telling setup records steps good ts h = each-map (EventOk (ToldOver setup records steps)) (IsTelling setup records steps) (λ t x. event_tells records (open_world setup.run records) (history setup records steps).happenings (history setup records steps).state.posts (origin_opened setup.run records good) t.event x) ts h
 
 pub history_tells : (setup : Setup) (records : List RecordParts) (steps : List Marked) → GoodOpening setup.run records → SendsUpdates (open_world setup.run records) (history setup records steps)
-history_tells setup records steps good = (all_telling setup records steps good (history setup records steps).opened.events (history_ok setup records steps good).begun, each_map (EntryOk (ToldOver setup records steps)) (λ (e : Entry). Each (IsTelling setup records steps) e.outputs.events) (λ e h. all_telling setup records steps good e.outputs.events h) (history setup records steps).entries (history_ok setup records steps good).told)
+history_tells setup records steps good = (all_telling setup records steps good (history setup records steps).opened.events (history_ok setup records steps good).begun, each-map (EntryOk (ToldOver setup records steps)) (λ (e : Entry). Each (IsTelling setup records steps) e.outputs.events) (λ e h. all_telling setup records steps good e.outputs.events h) (history setup records steps).entries (history_ok setup records steps good).told)
 
 taken_telling : (setup : Setup) (records : List RecordParts) (steps : List Marked) → GoodOpening setup.run records → (o : Option StreamEvent) → IfSome o (EventOk (ToldOver setup records steps)) → IfSome o (IsTelling setup records steps)
 taken_telling setup records steps good None h = tt
 taken_telling setup records steps good (Some t) h = event_tells records (open_world setup.run records) (history setup records steps).happenings (history setup records steps).state.posts (origin_opened setup.run records good) t.event h
 
 pub history_hands : (setup : Setup) (records : List RecordParts) (steps : List Marked) → GoodOpening setup.run records → HandsUpdates (open_world setup.run records) (history setup records steps)
-history_hands setup records steps good = each_map (HandedOk (ToldOver setup records steps)) (λ (e : Entry). IfSome e.outputs.taken (IsTelling setup records steps)) (λ e h. taken_telling setup records steps good e.outputs.taken h) (history setup records steps).entries (history_ok setup records steps good).handed
+history_hands setup records steps good = each-map (HandedOk (ToldOver setup records steps)) (λ (e : Entry). IfSome e.outputs.taken (IsTelling setup records steps)) (λ e h. taken_telling setup records steps good e.outputs.taken h) (history setup records steps).entries (history_ok setup records steps good).handed
 
 pub history_there : (setup : Setup) (records : List RecordParts) (steps : List Marked) (agent : List ℕ) (j : Job) → GoodOpening setup.run records → From records agent (trail (history setup records steps).happenings (open_world setup.run records) []) j → updates_of j.key (history setup records steps).happenings (open_world setup.run records) ≡ updates_on agent j.key (history setup records steps).happenings (open_world setup.run records)
 history_there setup records steps agent j good from = updates_there records (history setup records steps).happenings (open_world setup.run records) agent j (origin_opened setup.run records good) from

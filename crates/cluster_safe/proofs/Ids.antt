@@ -5,15 +5,6 @@ use Rattle.names_core.specs.Ids.{Numbered, same}
 use Rattle.cluster_model.specs.Ids.{following}
 use Rattle.cluster_safe.specs.Facts.{Less, UpTo}
 
-pub same_refl : (a : Numbered) → same a a ≡ true
-same_refl a = grind (arith, nat_tests)
-
-pub same_is : (a b : Numbered) → same a b ≡ true → a ≡ b
-same_is a b h =
-    let n : a.n ≡ b.n = grind (arith, nat_tests) in
-    let run : a.run ≡ b.run = grind (arith, nat_tests) in
-    let e : record { run = a.run; n = a.n } ≡ b = rw (n, run) refl in e
-
 pub less_upto : (a b c : Numbered) → Less a b → UpTo b c → Less a c
 less_upto a b c h k = grind (arith, nat_tests)
 

@@ -17,9 +17,10 @@ use Rattle.cluster_model.specs.Sides.{Side, unended, job_rows, just_booked}
 use Rattle.cluster_model.specs.Channels.{InRun}
 use Rattle.cluster_safe.specs.Facts.{Less, UpTo, TaskInFlight, Past, Within, live, launches, stakes, Distinct, InOrder, EndsKept, Ordered, EndsTorn, AtMost, EndedAt, Grown, StateOk, DownOk, IsReportOf, UpOk, drafted, mails_of, states_of, PastOk, OpenOk, Facts}
 use Rattle.cluster_safe.proofs.Ids.{less_upto, upto_trans, less_differs}
-use Rattle.cluster_safe.proofs.Orders.{each_append, each_map, each_both, within_refl, within_more, within_append}
+use Rattle.cluster_safe.proofs.Orders.{within_refl, within_more, within_append}
 use Rattle.cluster_safe.proofs.Amounts.{within_at_most}
-use Rattle.cluster_safe.proofs.Commands.{get_more, get_push, launches-append, NotTorn, ordered_more, ends_torn_more, ends_grown}
+use Rattle.cluster_safe.proofs.Commands.{launches-append, NotTorn, ordered_more, ends_torn_more, ends_grown}
+use Rattle.names_core.proofs.Lists.{each-append, each-map, each_both, slice_get-append, slice_get-push}
 
 abbrev pub issued_past : Past → Command → Past
 issued_past p w = record { ever = λ s. cond (eqb s p.peak) (p.ever s ++ w ∷ []) (p.ever s); peak = p.peak; told = p.told; latest = p.latest; sent = p.sent }
@@ -66,13 +67,13 @@ unended_bookings (EndFramework framework) = refl
 distinct_more : (next : Numbered) (xs new : List TaskInFlight) → Distinct xs → Each (λ s. Less s.job.key next) xs → Distinct new → Each (λ s. UpTo next s.job.key) new → Distinct (xs ++ new)
 distinct_more next [] new d b e n = e
 distinct_more next (x ∷ xs) new d b e n =
-    (each_append (λ t. t.job.key ≢ x.job.key) xs new d.0 (each_map (λ s. UpTo next s.job.key) (λ t. t.job.key ≢ x.job.key) (λ s le. less_differs x.job.key next s.job.key b.0 le) new n), distinct_more next xs new d.1 b.1 e n)
+    (each-append (λ t. t.job.key ≢ x.job.key) xs new d.0 (each-map (λ s. UpTo next s.job.key) (λ t. t.job.key ≢ x.job.key) (λ s le. less_differs x.job.key next s.job.key b.0 le) new n), distinct_more next xs new d.1 b.1 e n)
 
 order_more : (next : Numbered) (xs new : List TaskInFlight) → InOrder xs → Each (λ s. Less s.job.key next) xs → InOrder new → Each (λ s. UpTo next s.job.key) new → InOrder (xs ++ new)
 order_more next [] new d b e n = e
 order_more next (x ∷ xs) new d b e n = (
-  each_append (λ t. t.comes ≡ true → Less x.job.key t.job.key) xs new d.0
-      (each_map (λ s. UpTo next s.job.key) (λ t. t.comes ≡ true → Less x.job.key t.job.key) (λ s le c. less_upto x.job.key next s.job.key b.0 le) new n),
+  each-append (λ t. t.comes ≡ true → Less x.job.key t.job.key) xs new d.0
+      (each-map (λ s. UpTo next s.job.key) (λ t. t.comes ≡ true → Less x.job.key t.job.key) (λ s le c. less_upto x.job.key next s.job.key b.0 le) new n),
   order_more next xs new d.1 b.1 e n,
 )
 
@@ -120,20 +121,20 @@ state_issued p l w next torn past o c a s cov = record {
   applied = λ up. ever_cases p w a.session (λ ws. a.applied ≤ length ws) (λ same. omega (arith, length-append (p.ever a.session) (w ∷ []), s.applied up)) (s.applied up);
   distinct = cases Distinct (λ same. distinct_more l.next_key (stakes p a) (launches (w ∷ [])) s.distinct s.below (launches_one w) c.fresh) s.distinct;
   order = cases InOrder (λ same. order_more l.next_key (stakes p a) (launches (w ∷ [])) s.order s.below (launches_in_order w) c.fresh) s.order;
-  below = cases (Each (λ s. Less s.job.key next)) (λ same. each_append (λ s. Less s.job.key next) (stakes p a) (launches (w ∷ [])) below_next c.below) below_next;
+  below = cases (Each (λ s. Less s.job.key next)) (λ same. each-append (λ s. Less s.job.key next) (stakes p a) (launches (w ∷ [])) below_next c.below) below_next;
   room = cases (λ ss. AtMost (job_rows (live ss)) a.total)
       (λ same name. le_trans (within_at_most (live (stakes p a ++ launches (w ∷ []))) (unended (l.booked ++ bookings w)) wider name) (le_trans (c.room name) (s.owns name))) s.room;
   ends = λ up. rw (take_ever p w a.session a.applied (s.applied up)) (cases (λ ss. EndsKept (take a.applied (p.ever a.session)) ss)
       (λ same. ends_grown torn a.applied (p.ever a.session) (stakes p a) (launches (w ∷ [])) (subst (λ u. EndsTorn torn (p.ever u)) (sym same) c.torn_before) c.not_torn (s.ends up))
       (s.ends up));
-  grown = cases (Each (Grown p.sent)) (λ same. each_append (Grown p.sent) (stakes p a) (launches (w ∷ [])) s.grown c.unsent) s.grown;
+  grown = cases (Each (Grown p.sent)) (λ same. each-append (Grown p.sent) (stakes p a) (launches (w ∷ [])) s.grown c.unsent) s.grown;
 }
   where
     cases : (P : List TaskInFlight → Type 0) → (a.session ≡ p.peak → P (stakes p a ++ launches (w ∷ []))) → P (stakes p a) → P (stakes (issued_past p w) a)
     cases = stakes_cases p w a s.applied
 
     below_next : Each (λ s. Less s.job.key next) (stakes p a)
-    below_next = each_map (λ s. Less s.job.key l.next_key) (λ s. Less s.job.key next) (λ s lt. less_upto s.job.key l.next_key next lt c.later) (stakes p a) s.below
+    below_next = each-map (λ s. Less s.job.key l.next_key) (λ s. Less s.job.key next) (λ s lt. less_upto s.job.key l.next_key next lt c.later) (stakes p a) s.below
 
     wider : Within (live (stakes p a ++ launches (w ∷ []))) (unended (l.booked ++ bookings w))
     wider = rw (live-append (stakes p a) (launches (w ∷ [])), unended-append l.booked (bookings w), unended_bookings w)
@@ -150,7 +151,7 @@ past_issued p l w next torn past c = record {
 down_issued : (p : Past) (w : Command) (m : MasterMail) → DownOk p m → DownOk (issued_past p w) m
 down_issued p w (Hello run dead) h = h
 down_issued p w (Issued session number what) h =
-    (h.0, (h.1.0, h.1.1, ever_cases p w session (λ ws. slice_get ws h.1.0 ≡ Some what) (λ same. get_more (p.ever session) (w ∷ []) h.1.0 what h.1.2) h.1.2))
+    (h.0, (h.1.0, h.1.1, ever_cases p w session (λ ws. slice_get ws h.1.0 ≡ Some what) (λ same. slice_get-append (p.ever session) (w ∷ []) h.1.0 what h.1.2) h.1.2))
 
 up_issued : (p : Past) (l : InRun) (w : Command) (next : Numbered) (torn : List Numbered) → IssueOk p l w next torn → (ags : List Agent) → Each (StateOk p l.next_key l.total) ags → (m : AgentMail) → UpOk p l.next_key ags m → UpOk (issued_past p w) next ags m
 up_issued p l w next torn c ags ok (Report session run tasks total) h = (
@@ -170,8 +171,8 @@ up_issued p l w next torn c ags ok (Update session key k state ended) h = λ e.
       less_upto key l.next_key next g.0 c.later,
       each_both (StateOk p l.next_key l.total) (λ a. EndedAt key (stakes p a)) (λ a. EndedAt key (stakes (issued_past p w) a))
           (λ a s old. stakes_cases p w a s.applied (EndedAt key)
-          (λ same. each_append (λ t. t.job.key ≡ key → t.ended ≡ true) (stakes p a) (launches (w ∷ [])) old
-          (each_map (λ t. UpTo l.next_key t.job.key) (λ t. t.job.key ≡ key → t.ended ≡ true) (λ t le is. absurd (less_differs key l.next_key t.job.key g.0 le is)) (launches (w ∷ [])) c.fresh)) old) ags ok g.1,
+          (λ same. each-append (λ t. t.job.key ≡ key → t.ended ≡ true) (stakes p a) (launches (w ∷ [])) old
+          (each-map (λ t. UpTo l.next_key t.job.key) (λ t. t.job.key ≡ key → t.ended ≡ true) (λ t le is. absurd (less_differs key l.next_key t.job.key g.0 le is)) (launches (w ∷ [])) c.fresh)) old) ags ok g.1,
     )
 
 pub facts_issued : (p : Past) (l : InRun) (w : Command) (next : Numbered) (torn : List Numbered) → Facts p l → IssueOk p l w next torn → Facts (issued_past p w) (issued_lane l w next torn)
@@ -190,10 +191,10 @@ facts_issued p l w next torn f c = record {
   };
   when_shut = λ e. absurd (differ e c.is_open);
   states = each_both (StateOk p l.next_key l.total) (λ a. Within (live (stakes p a)) (unended l.booked)) (StateOk (issued_past p w) next l.total) (state_issued p l w next torn f.past o c) (states_of l) f.states o.covered;
-  downs = each_append (DownOk (issued_past p w)) l.to_agent (Issued l.session (suc (l.known + length l.waiting)) w ∷ []) (each_map (DownOk p) (DownOk (issued_past p w)) (down_issued p w) l.to_agent f.downs)
+  downs = each-append (DownOk (issued_past p w)) l.to_agent (Issued l.session (suc (l.known + length l.waiting)) w ∷ []) (each-map (DownOk p) (DownOk (issued_past p w)) (down_issued p w) l.to_agent f.downs)
       ((le_of_eq o.session, (l.known + length l.waiting, refl, at_end)), tt);
-  ups = each_map (UpOk p l.next_key (states_of l)) (UpOk (issued_past p w) next (states_of l)) (up_issued p l w next torn c (states_of l) f.states) l.to_master f.ups;
-  pending = each_map (UpOk p l.next_key (drafted l.draft)) (UpOk (issued_past p w) next (drafted l.draft)) (up_issued p l w next torn c (drafted l.draft) f.states.1) (mails_of l.draft) f.pending;
+  ups = each-map (UpOk p l.next_key (states_of l)) (UpOk (issued_past p w) next (states_of l)) (up_issued p l w next torn c (states_of l) f.states) l.to_master f.ups;
+  pending = each-map (UpOk p l.next_key (drafted l.draft)) (UpOk (issued_past p w) next (drafted l.draft)) (up_issued p l w next torn c (drafted l.draft) f.states.1) (mails_of l.draft) f.pending;
 }
   where
     o : OpenOk p l
@@ -209,7 +210,7 @@ facts_issued p l w next torn f c = record {
     count_is = omega (arith, o.known, ap length o.issued, length-drop l.known (p.ever p.peak))
 
     at_end : slice_get ((issued_past p w).ever l.session) (l.known + length l.waiting) ≡ Some w
-    at_end = rw (o.session, at_peak, count_is) (get_push (p.ever p.peak) w)
+    at_end = rw (o.session, at_peak, count_is) (slice_get-push (p.ever p.peak) w)
 
     wider : (a : Agent) → Within (live (stakes p a)) (unended l.booked) → Within (live (stakes p a ++ launches (w ∷ []))) (unended (l.booked ++ bookings w))
     wider a k = rw (live-append (stakes p a) (launches (w ∷ [])), unended-append l.booked (bookings w), unended_bookings w)

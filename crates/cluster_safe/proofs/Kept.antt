@@ -28,14 +28,18 @@ use Rattle.cluster_model.specs.Sides.{Run, Side, new_run, torn_down, unended, jo
 use Rattle.cluster_model.specs.Channels.{Channel, InRun, AgentStep, Draw, DrawMail, Adopt, StopWithout, StopWith, drawn, drawn_mail, adopted, stopped_with, agent_step, ChannelStep, ByMaster, Receive, ByAgent, received_mail, happens, with_side, halted_run, Fits}
 use Rattle.cluster_model.specs.Masters.{nothing}
 use Rattle.cluster_safe.specs.Facts.{Less, UpTo, Past, Within, live, task_stake, launches, coming, stakes, EndsKept, Ordered, EndsTorn, AtMost, EndedAt, Grown, StateOk, DownOk, UpOk, drafted, mails_of, states_of, Facts, Kept}
-use Rattle.cluster_safe.proofs.Ids.{same_is, upto_refl, less_after, upto_after}
-use Rattle.cluster_safe.proofs.Orders.{each_map, each_both, each_at, within_refl, within_trans}
+use Rattle.cluster_safe.proofs.Ids.{upto_refl, less_after, upto_after}
+use Rattle.cluster_safe.proofs.Orders.{within_refl, within_trans}
 use Rattle.cluster_safe.proofs.Amounts.{amount-append, covers_is, offers_weigh, jobs-append, offers-append, within_at_most, offers-split, tasks_weigh}
 use Rattle.cluster_safe.proofs.Commands.{NotTorn, ends_drop}
 use Rattle.cluster_safe.proofs.States.{Replaces, facts_replaced, follows_recovered, ok_recovered, live_left}
-use Rattle.cluster_safe.proofs.Drafts.{both_true, Draftable, AllOk, next_ok, mail_ok}
+use Rattle.cluster_safe.proofs.Drafts.{Draftable, AllOk, next_ok, mail_ok}
 use Rattle.cluster_safe.proofs.Issue.{issued_past, bookings, unended-append, issued_side, IssueOk, facts_issued}
 use Rattle.cluster_safe.proofs.Master.{sided, posted, facts_offers, facts_booked, facts_torn, helloed_past, facts_helloed, facts_lost, facts_new_run, facts_halted, facts_resent, facts_opened, covered_received, covered_forget_all}
+use Rattle.cluster_model.proofs.Chains.{received_ended, received_job}
+use Rattle.names_core.proofs.IdOrder.{same-is}
+use Rattle.names_core.proofs.Lists.{each-map, each_at, each_both}
+use Rattle.std.proofs.lemmas.Bool.{and_parts, not-true}
 
 -- what the master books gets no more by a change that keeps each job and no end back
 fewer_mapped : (f : Booked → Booked) → ((b : Booked) → (f b).job ≡ b.job) → ((b : Booked) → b.ended ≡ true → (f b).ended ≡ true) → (bs : List Booked) → Within (unended (map f bs)) (unended bs)
@@ -110,8 +114,8 @@ kept_next_offer {sent} l next k = (
 
 kept_offered : {sent : Numbered → List TaskState} (l : InRun) (o : Offer) → Kept sent l → Kept sent (passed l (offered l.run l.side o))
 kept_offered {sent} l o k = cond_both (may_offer l.run l.side o) (sends_nothing (record l.run { next_offer = following o.id }) (record l.side { offers = l.offers ++ o ∷ [] })) (sends_nothing l.run l.side) (λ x. Kept sent (passed l x))
-    (λ e. let all = both_true (l.is_open && same o.id l.next_offer) (covers l.total (o.resources ++ taken l.side)) e in
-    let both = both_true l.is_open (same o.id l.next_offer) all.0 in
+    (λ e. let all = and_parts (l.is_open && same o.id l.next_offer) (covers l.total (o.resources ++ taken l.side)) e in
+    let both = and_parts l.is_open (same o.id l.next_offer) all.0 in
     quiet l (record l.run { next_offer = following o.id }) (record l.side { offers = l.offers ++ o ∷ [] })
     (kept_next_offer (sided l (record l.side { offers = l.offers ++ o ∷ [] })) (following o.id) (k.0, facts_offers k.0 l (l.offers ++ o ∷ []) k.1 (λ d. absurd (differ d both.0)), (λ name. room name (covers_is l.total (o.resources ++ taken l.side) all.1 name)), k.3)))
     (λ e. quiet l l.run l.side k)
@@ -158,10 +162,6 @@ kept_plain {sent} l w none nothing torn ordered k = cond_both l.is_open (record 
       unsent = subst (Each (Grown k.0.sent)) (sym nothing) tt;
     }
 
-flipped : (b : Bool) → not b ≡ true → b ≡ false
-flipped true e = absurd cc
-flipped false e = refl
-
 pub kept_torn : {sent : Numbered → List TaskState} (l : InRun) (framework : Numbered) → Kept sent l → Kept sent (record { run = torn_down framework l.run; channel = l.channel })
 kept_torn {sent} l framework k = (k.0, facts_torn k.0 l framework k.1, k.2, k.3)
 
@@ -192,7 +192,7 @@ kept_launched {sent} framework ids budget used (job ∷ jobs) l x p f is not_tor
     issued_is = cond-true x.side.is_open next (books x job) is
 
     covered : may_launch x.run framework budget used job ≡ true → AtMost (job.resources ++ used) budget
-    covered e = covers_is budget (job.resources ++ used) (both_true (same job.key x.run.next_key && same job.framework framework) (covers budget (job.resources ++ used)) e).1
+    covered e = covers_is budget (job.resources ++ used) (and_parts (same job.key x.run.next_key && same job.framework framework) (covers budget (job.resources ++ used)) e).1
 
     booked_more : (name : List ℕ) → amount name (job_rows (unended (x.side.booked ++ bookings (Launch job ids)))) ≡ amount name (job_rows (unended x.side.booked)) + amount name job.resources
     booked_more name = rw (unended-append x.side.booked (bookings (Launch job ids)), jobs-append (unended x.side.booked) (job ∷ []), amount-append name (job_rows (unended x.side.booked)) (job_rows (job ∷ []))) (omega (arith, amount-append name job.resources []))
@@ -215,21 +215,21 @@ kept_launched {sent} framework ids budget used (job ∷ jobs) l x p f is not_tor
     }
       where
         parts : (same job.key x.run.next_key && same job.framework framework ≡ true) × (covers budget (job.resources ++ used) ≡ true)
-        parts = both_true (same job.key x.run.next_key && same job.framework framework) (covers budget (job.resources ++ used)) e
+        parts = and_parts (same job.key x.run.next_key && same job.framework framework) (covers budget (job.resources ++ used)) e
 
         fresh : UpTo x.run.next_key job.key
-        fresh = subst (UpTo x.run.next_key) (sym (same_is job.key x.run.next_key (both_true (same job.key x.run.next_key) (same job.framework framework) parts.0).0)) (upto_refl x.run.next_key)
+        fresh = subst (UpTo x.run.next_key) (sym (same-is job.key x.run.next_key (and_parts (same job.key x.run.next_key) (same job.framework framework) parts.0).0)) (upto_refl x.run.next_key)
 
         alike : job.framework ≡ framework
-        alike = same_is job.framework framework (both_true (same job.key x.run.next_key) (same job.framework framework) parts.0).1
+        alike = same-is job.framework framework (and_parts (same job.key x.run.next_key) (same job.framework framework) parts.0).1
 
 kept_accepted : {sent : Numbered → List TaskState} (l : InRun) (framework : Numbered) (ids : List Numbered) (jobs : List Job) → Kept sent l → Kept sent (passed l (accepted l.run l.side framework ids jobs))
 kept_accepted {sent} l framework ids jobs k = cond_both (is_good l.side framework ids && not (is_among l.torn framework))
     (launch_all framework ids budget jobs (record { used = []; sending = sends_nothing l.run (without_used l.side framework ids) })) (sends_nothing l.run l.side) (λ x. Kept sent (passed l x))
-    (λ e. let both = both_true (is_good l.side framework ids) (not (is_among l.torn framework)) e in
-    let is : l.is_open ≡ true = (both_true l.is_open (not (is_empty ids)) (both_true (l.is_open && not (is_empty ids)) (not (is_repeated ids)) (both_true (l.is_open && not (is_empty ids) && not (is_repeated ids)) (list_all (has_offer l.side framework) ids) both.0).0).0).0 in
+    (λ e. let both = and_parts (is_good l.side framework ids) (not (is_among l.torn framework)) e in
+    let is : l.is_open ≡ true = (and_parts l.is_open (not (is_empty ids)) (and_parts (l.is_open && not (is_empty ids)) (not (is_repeated ids)) (and_parts (l.is_open && not (is_empty ids) && not (is_repeated ids)) (list_all (has_offer l.side framework) ids) both.0).0).0).0 in
     kept_launched framework ids budget [] jobs l (sends_nothing l.run (without_used l.side framework ids)) k.0
-    (subst (λ mails. Facts k.0 (record { run = l.run; channel = record l.channel { side = without_used l.side framework ids; to_agent = mails } })) (sym (append-nil l.to_agent)) (facts_offers k.0 l (filter (λ o. not (is_named framework ids o)) l.offers) k.1 (λ d. absurd (differ d is)))) is (flipped (is_among l.torn framework) both.1) room (λ name. zero-le) k.3)
+    (subst (λ mails. Facts k.0 (record { run = l.run; channel = record l.channel { side = without_used l.side framework ids; to_agent = mails } })) (sym (append-nil l.to_agent)) (facts_offers k.0 l (filter (λ o. not (is_named framework ids o)) l.offers) k.1 (λ d. absurd (differ d is)))) is (not-true (is_among l.torn framework) both.1) room (λ name. zero-le) k.3)
     (λ e. quiet l l.run l.side k)
   where
     budget : List Row
@@ -243,29 +243,23 @@ kept_accepted {sent} l framework ids jobs k = cond_both (is_good l.side framewor
 
 -- mails that come to the master
 
-pub received_job : (key : Numbered) (k : ℕ) (state : TaskState) (ended : Bool) (b : Booked) → (received_update key k state ended b).job ≡ b.job
-received_job key k state ended b = cond_both (same b.job.key key) (record { job = b.job; ended = b.ended || ended; received = (if nat_le b.received (suc k) then suc k else b.received); state = (if nat_le b.received (suc k) then state else b.state) }) b (λ c. c.job ≡ b.job) (λ e. refl) (λ e. refl)
-
-received_for_good : (key : Numbered) (k : ℕ) (state : TaskState) (ended : Bool) (b : Booked) → b.ended ≡ true → (received_update key k state ended b).ended ≡ true
-received_for_good key k state ended b e = cond_both (same b.job.key key) (record { job = b.job; ended = b.ended || ended; received = (if nat_le b.received (suc k) then suc k else b.received); state = (if nat_le b.received (suc k) then state else b.state) }) b (λ c. c.ended ≡ true) (λ d. or_left b.ended ended e) (λ d. e)
-
 kept_came : {sent : Numbered → List TaskState} (l : InRun) (k : Kept sent l) (o : Option AgentMail) → ((m : AgentMail) → o ≡ Some m → UpOk k.0 l.next_key (states_of l) m) → Kept sent (record { run = l.run; channel = received_mail l.run l.channel o })
 kept_came {sent} l k None h = k
 kept_came {sent} l k (Some (Report session run tasks total)) h = cond_both (opens l.run l.side session run) (opened l.side session tasks total) l.side (λ x. Kept sent (sided l x))
-    (λ e. let parts = both_true (l.serves && eqb run l.number) (nat_lt (last_session l.side) session) e in
-    let both = both_true l.serves (eqb run l.number) parts.0 in
+    (λ e. let parts = and_parts (l.serves && eqb run l.number) (nat_lt (last_session l.side) session) e in
+    let both = and_parts l.serves (eqb run l.number) parts.0 in
     let u = h (Report session run tasks total) refl in
     let same_run : run ≡ l.number = (Decides-eqb run l.number).0 both.1 in
     let below : last_session l.side < session = (let t : nat_lt (last_session l.side) session ≡ true = parts.1 in grind (arith, nat_tests)) in
     (record { ever = k.0.ever; peak = session; told = k.0.told; latest = k.0.latest; sent = k.0.sent }, facts_opened k.0 l session tasks total k.1 (u.0 ∙ same_run, u.1, u.2) below, u.1, k.3))
     (λ e. k)
 kept_came {sent} l k (Some (Applied session count)) h = cond_both (counts l.side session count) (record l.side { booked = forget_all (take (count - l.known) l.waiting) l.booked; waiting = drop (count - l.known) l.waiting; known = count }) l.side (λ x. Kept sent (sided l x))
-    (λ e. let parts = both_true (l.is_open && session == l.session) (nat_lt l.known count && nat_le count (l.known + length l.waiting)) e in
-    let both = both_true l.is_open (eqb session l.session) parts.0 in
+    (λ e. let parts = and_parts (l.is_open && session == l.session) (nat_lt l.known count && nat_le count (l.known + length l.waiting)) e in
+    let both = and_parts l.is_open (eqb session l.session) parts.0 in
     let o = k.1.when_open both.0 in
     let u = h (Applied session count) refl in
     let same : session ≡ k.0.peak = (Decides-eqb session l.session).0 both.1 ∙ o.session in
-    let above : l.known < count = (let t : nat_lt l.known count ≡ true = (both_true (nat_lt l.known count) (nat_le count (l.known + length l.waiting)) parts.1).0 in grind (arith, nat_tests)) in
+    let above : l.known < count = (let t : nat_lt l.known count ≡ true = (and_parts (nat_lt l.known count) (nat_le count (l.known + length l.waiting)) parts.1).0 in grind (arith, nat_tests)) in
     let total : l.known + (count - l.known) ≡ count = omega arith in
     let within : count ≤ length (k.0.ever k.0.peak) = subst (λ s. count ≤ length (k.0.ever s)) same u.1 in
     let rest : drop (count - l.known) l.waiting ≡ drop count (k.0.ever k.0.peak) = ap (drop (count - l.known)) o.issued ∙ (drop-drop (count - l.known) l.known (k.0.ever k.0.peak) ∙ ap (λ n. drop n (k.0.ever k.0.peak)) total) in
@@ -280,11 +274,11 @@ kept_came {sent} l k (Some (Applied session count)) h = cond_both (counts l.side
     ))
     (λ e. k)
 kept_came {sent} l k (Some (Update session key n state ended)) h = cond_both (l.is_open && session == l.session) (record l.side { booked = map (received_update key n state ended) l.booked }) l.side (λ x. Kept sent (sided l x))
-    (λ e. let both = both_true l.is_open (eqb session l.session) e in
+    (λ e. let both = and_parts l.is_open (eqb session l.session) e in
     let o = k.1.when_open both.0 in (
       k.0,
       facts_booked k.0 l (map (received_update key n state ended) l.booked) l.waiting l.known k.1 both.0 o.known o.issued (by_end ended refl o.covered),
-      room_booked l.side (map (received_update key n state ended) l.booked) k.2 (fewer_mapped (received_update key n state ended) (received_job key n state ended) (received_for_good key n state ended) l.booked),
+      room_booked l.side (map (received_update key n state ended) l.booked) k.2 (fewer_mapped (received_update key n state ended) (received_job key n state ended) (received_ended key n state ended) l.booked),
       k.3,
     ))
     (λ e. k)
@@ -292,7 +286,7 @@ kept_came {sent} l k (Some (Update session key n state ended)) h = cond_both (l.
     by_end : (b : Bool) → ended ≡ b → Each (λ a. Within (live (stakes k.0 a)) (unended l.booked)) (states_of l) → Each (λ a. Within (live (stakes k.0 a)) (unended (map (received_update key n state ended) l.booked))) (states_of l)
     by_end true e w = each_both (λ a. EndedAt key (stakes k.0 a)) (λ a. Within (live (stakes k.0 a)) (unended l.booked)) (λ a. Within (live (stakes k.0 a)) (unended (map (received_update key n state ended) l.booked)))
         (λ a at v. covered_received k.0 key n state ended l.booked a (λ t. at) v) (states_of l) (h (Update session key n state ended) refl e).1 w
-    by_end false e w = each_map (λ a. Within (live (stakes k.0 a)) (unended l.booked)) (λ a. Within (live (stakes k.0 a)) (unended (map (received_update key n state ended) l.booked)))
+    by_end false e w = each-map (λ a. Within (live (stakes k.0 a)) (unended l.booked)) (λ a. Within (live (stakes k.0 a)) (unended (map (received_update key n state ended) l.booked)))
         (λ a v. covered_received k.0 key n state ended l.booked a (λ t. absurd cc) v) (states_of l) w
 
 kept_lost : {sent : Numbered → List TaskState} (l : InRun) → Kept sent l → Kept sent (passed l (sends_nothing l.run (lost l.side)))

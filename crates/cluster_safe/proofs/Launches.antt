@@ -30,15 +30,16 @@ use Rattle.cluster_model.specs.Sides.{Run, Side, Sending, sends_nothing, issue, 
 use Rattle.cluster_model.specs.Channels.{Channel, AgentStep, Draw, DrawMail, Adopt, StopWithout, StopWith, drawn, drawn_mail, adopted, stopped_with, agent_step, ChannelStep, ByMaster, Receive, ByAgent, received_mail, happens, World, Happening, At, TearDown, Restart, Halt, behind, in_front, at_agent, with_side, after, after_all, open_channel}
 use Rattle.cluster_safe.specs.Facts.{Less}
 use Rattle.cluster_safe.specs.Origin.{Mark, launched, marks_by}
-use Rattle.cluster_safe.proofs.Ids.{same_is}
 use Rattle.cluster_safe.proofs.Placed.{each_put}
-use Rattle.cluster_safe.proofs.Orders.{each_append, each_map, each_at}
-use Rattle.cluster_safe.proofs.Drafts.{both_true, AllOk, all_if, starts_ok}
+use Rattle.cluster_safe.proofs.Drafts.{AllOk, all_if, starts_ok}
 use Rattle.cluster_safe.proofs.Told.{drafts_of, agents_of}
 use Rattle.cluster_safe.proofs.Origins.{Launches, launches_are}
 use Rattle.cluster_safe.proofs.Trails.{OfferOk}
 use Rattle.cluster_safe.proofs.OriginWorlds.{ChannelOk, OriginOk, origin_all, later_at}
 use Rattle.cluster_safe.proofs.Acks.{HappeningOk, ChannelStepOk, StepOk}
+use Rattle.names_core.proofs.IdOrder.{same-is}
+use Rattle.names_core.proofs.Lists.{each-append, each-filter, each-map, each_at}
+use Rattle.std.proofs.lemmas.Bool.{and_parts}
 
 -- a framework and offers of runs up to this one
 abbrev pub IsFrom : ℕ → Job → List Numbered → Type 0
@@ -68,7 +69,7 @@ pub record ChannelFrom (n : ℕ) (c : Channel) : Type 0 where
 -- of a later run
 
 from_later : (n m : ℕ) → n ≤ m → (job : Job) (offers : List Numbered) → IsFrom n job offers → IsFrom m job offers
-from_later n m le job offers h = (le_trans h.0 le, each_map (λ (id : Numbered). id.run ≤ n) (λ (id : Numbered). id.run ≤ m) (λ id k. le_trans k le) offers h.1)
+from_later n m le job offers h = (le_trans h.0 le, each-map (λ (id : Numbered). id.run ≤ n) (λ (id : Numbered). id.run ≤ m) (λ id k. le_trans k le) offers h.1)
 
 command_later : (n m : ℕ) → n ≤ m → (w : Command) → CommandFrom n w → CommandFrom m w
 command_later n m le (Launch job offers) h = from_later n m le job offers h
@@ -81,20 +82,16 @@ mail_later n m le (Hello run dead) h = tt
 mail_later n m le (Issued session number what) h = command_later n m le what h
 
 agent_later : (n m : ℕ) → n ≤ m → (a : Agent) → AgentFrom n a → AgentFrom m a
-agent_later n m le a h = each_map (TaskFrom n) (TaskFrom m) (λ t k. from_later n m le t.job t.offers k) a.durable.tasks h
+agent_later n m le a h = each-map (TaskFrom n) (TaskFrom m) (λ t k. from_later n m le t.job t.offers k) a.durable.tasks h
 
 pub channel_later : (n m : ℕ) → n ≤ m → (c : Channel) → ChannelFrom n c → ChannelFrom m c
 channel_later n m le c h = record {
-  waiting = each_map (CommandFrom n) (CommandFrom m) (command_later n m le) c.side.waiting h.waiting;
-  states = each_map (AgentFrom n) (AgentFrom m) (agent_later n m le) (agents_of c) h.states;
-  downs = each_map (MailFrom n) (MailFrom m) (mail_later n m le) c.to_agent h.downs;
+  waiting = each-map (CommandFrom n) (CommandFrom m) (command_later n m le) c.side.waiting h.waiting;
+  states = each-map (AgentFrom n) (AgentFrom m) (agent_later n m le) (agents_of c) h.states;
+  downs = each-map (MailFrom n) (MailFrom m) (mail_later n m le) c.to_agent h.downs;
 }
 
 -- the agent
-
-each_filter : {A : Type 0} (P : A → Type 0) (keep : A → Bool) (xs : List A) → Each P xs → Each P (filter keep xs)
-each_filter P keep [] h = tt
-each_filter P keep (x ∷ xs) h = cond_both (keep x) (x ∷ filter keep xs) (filter keep xs) (Each P) (λ e. (h.0, each_filter P keep xs h.1)) (λ e. each_filter P keep xs h.1)
 
 each_mapped : (P : RecordedTask → Type 0) (f : RecordedTask → RecordedTask) → ((t : RecordedTask) → P t → P (f t)) → (ts : List RecordedTask) → Each P ts → Each P (map f ts)
 each_mapped P f g [] h = tt
@@ -109,8 +106,8 @@ acknowledged_from n key k t h = cond_both (is_task key t && is_front k t.updates
 after_from : (n : ℕ) (w : Command) (ts : List RecordedTask) → CommandFrom n w → Each (TaskFrom n) ts → Each (TaskFrom n) (tasks_after w ts)
 after_from n (Launch job offers) ts c h = each_put (TaskFrom n) (launched_task job offers) ts c h
 after_from n (Kill key) ts c h = each_mapped (TaskFrom n) (stated key Killed) (stated_from n key Killed) ts h
-after_from n (Ack key k) ts c h = each_filter (TaskFrom n) (λ t. not (is_done t.updates)) (map (acknowledged key k) ts) (each_mapped (TaskFrom n) (acknowledged key k) (acknowledged_from n key k) ts h)
-after_from n (EndFramework framework) ts c h = each_filter (TaskFrom n) (λ t. not (same t.job.framework framework)) ts h
+after_from n (Ack key k) ts c h = each-filter (TaskFrom n) (λ t. not (is_done t.updates)) (map (acknowledged key k) ts) (each_mapped (TaskFrom n) (acknowledged key k) (acknowledged_from n key k) ts h)
+after_from n (EndFramework framework) ts c h = each-filter (TaskFrom n) (λ t. not (same t.job.framework framework)) ts h
 
 abbrev DraftFrom : ℕ → Draft → Type 0
 DraftFrom n d = AgentFrom n d.after
@@ -213,7 +210,7 @@ SendingFrom n x = Each (CommandFrom n) x.side.waiting × Each (MailFrom n) x.sen
 
 issue_from : (n : ℕ) (x : Sending) (w : Command) → CommandFrom n w → SendingFrom n x → SendingFrom n (issue x w)
 issue_from n x w t h = cond_both x.side.is_open (record { run = x.run; side = record x.side { waiting = x.side.waiting ++ w ∷ [] }; sent = x.sent ++ Issued x.side.session (suc (x.side.known + length x.side.waiting)) w ∷ [] }) x (SendingFrom n)
-    (λ e. (each_append (CommandFrom n) x.side.waiting (w ∷ []) h.0 (t, tt), each_append (MailFrom n) x.sent (Issued x.side.session (suc (x.side.known + length x.side.waiting)) w ∷ []) h.1 (t, tt))) (λ e. h)
+    (λ e. (each-append (CommandFrom n) x.side.waiting (w ∷ []) h.0 (t, tt), each-append (MailFrom n) x.sent (Issued x.side.session (suc (x.side.known + length x.side.waiting)) w ∷ []) h.1 (t, tt))) (λ e. h)
 
 launch_one_from : (n : ℕ) (framework : Numbered) (ids : List Numbered) (budget : List Row) (x : Launching) (job : Job) → (may_launch x.sending.run framework budget x.used job ≡ true → IsFrom n job ids) → SendingFrom n x.sending → SendingFrom n (launch_one framework ids budget x job).sending
 launch_one_from n framework ids budget x job p h =
@@ -240,16 +237,16 @@ one_from n framework id [] h e = absurd cc
 one_from n framework id (o ∷ os) h e = by (same o.framework framework && same o.id id) refl e (one_from n framework id os h.1)
   where
     by : (t : Bool) → (same o.framework framework && same o.id id) ≡ t → list_any (λ p. same p.framework framework && same p.id id) (o ∷ os) ≡ true → (list_any (λ p. same p.framework framework && same p.id id) os ≡ true → id.run ≤ n) → id.run ≤ n
-    by true d k rest = (let alike : same o.id id ≡ true = (both_true (same o.framework framework) (same o.id id) d).1 in subst (λ (i : Numbered). i.run ≤ n) (same_is o.id id alike) h.0)
+    by true d k rest = (let alike : same o.id id ≡ true = (and_parts (same o.framework framework) (same o.id id) d).1 in subst (λ (i : Numbered). i.run ≤ n) (same-is o.id id alike) h.0)
     by false d k rest = rest (rw d at k)
 
 ids_from : (n : ℕ) (s : Side) (framework : Numbered) (ids : List Numbered) → OffersFrom n s.offers → list_all (has_offer s framework) ids ≡ true → Each (λ (id : Numbered). id.run ≤ n) ids
 ids_from n s framework [] h e = tt
-ids_from n s framework (id ∷ ids) h e = (let both = both_true (has_offer s framework id) (list_all (has_offer s framework) ids) e in (one_from n framework id s.offers h both.0, ids_from n s framework ids h both.1))
+ids_from n s framework (id ∷ ids) h e = (let both = and_parts (has_offer s framework id) (list_all (has_offer s framework) ids) e in (one_from n framework id s.offers h both.0, ids_from n s framework ids h both.1))
 
 accepted_from : (n : ℕ) (run : Run) (c : Channel) (framework : Numbered) (ids : List Numbered) (jobs : List Job) → framework.run ≤ n → OffersFrom n c.side.offers → ChannelFrom n c → SendingFrom n (accepted run c.side framework ids jobs)
 accepted_from n run c framework ids jobs known os h = cond_both (is_good c.side framework ids && not (is_among run.torn framework)) (launch_all framework ids budget jobs first) (sends_nothing run c.side) (SendingFrom n)
-    (λ e. launch_from n framework ids budget jobs first (each_map (λ j. j.framework ≡ framework) (λ j. IsFrom n j ids) (λ j is. (subst (λ (f : Numbered). f.run ≤ n) (sym is) known, of_ids e)) (launched framework ids budget jobs first) are.whose) (h.waiting, tt)) (λ e. (h.waiting, tt))
+    (λ e. launch_from n framework ids budget jobs first (each-map (λ j. j.framework ≡ framework) (λ j. IsFrom n j ids) (λ j is. (subst (λ (f : Numbered). f.run ≤ n) (sym is) known, of_ids e)) (launched framework ids budget jobs first) are.whose) (h.waiting, tt)) (λ e. (h.waiting, tt))
   where
     budget : List Row
     budget = offer_rows (used_offers c.side framework ids)
@@ -261,7 +258,7 @@ accepted_from n run c framework ids jobs known os h = cond_both (is_good c.side 
     are = launches_are framework ids budget jobs first (λ name. zero-le)
 
     of_ids : (is_good c.side framework ids && not (is_among run.torn framework)) ≡ true → Each (λ (id : Numbered). id.run ≤ n) ids
-    of_ids e = ids_from n c.side framework ids os (both_true (c.side.is_open && not (is_empty ids) && not (is_repeated ids)) (list_all (has_offer c.side framework) ids) (both_true (is_good c.side framework ids) (not (is_among run.torn framework)) e).0).1
+    of_ids e = ids_from n c.side framework ids os (and_parts (c.side.is_open && not (is_empty ids) && not (is_repeated ids)) (list_all (has_offer c.side framework) ids) (and_parts (is_good c.side framework ids) (not (is_among run.torn framework)) e).0).1
 
 oldest_from : (n : ℕ) (s : Side) (ws : List Command) → Each (CommandFrom n) ws → Each (MailFrom n) (oldest_again s ws)
 oldest_from n s [] h = tt
@@ -281,7 +278,7 @@ side_from A n run c Lose t os h = cond_both c.is_open (shut c.side c.session) c.
 -- every step
 
 happens_from : (A : Numbered → ℕ → Type 0) (n : ℕ) (run : Run) (c : Channel) (step : ChannelStep) → ChannelStepOk A n step → OffersFrom n c.side.offers → ChannelFrom n c → ChannelFrom n (happens run c step).channel
-happens_from A n run c (ByMaster step) t os h = (let x = side_from A n run c step t os h in record { waiting = x.0; states = h.states; downs = each_append (MailFrom n) c.to_agent (side_step run c.side step).sent h.downs x.1 })
+happens_from A n run c (ByMaster step) t os h = (let x = side_from A n run c step t os h in record { waiting = x.0; states = h.states; downs = each-append (MailFrom n) c.to_agent (side_step run c.side step).sent h.downs x.1 })
 happens_from A n run c (Receive place) t os h = receive_from n run c (slice_get c.to_master place) h
 happens_from A n run c (ByAgent step) t os h = agent_from n c step h
 
@@ -319,8 +316,8 @@ below_run : (id next : Numbered) (n : ℕ) → Less id next → next.run ≡ n �
 below_run id next n lt e = grind (arith, nat_tests)
 
 offers_from : (rs : List RecordParts) (w : World) (marks : List Mark) → OriginOk rs w marks → Each (λ (c : Channel). OffersFrom w.run.number c.side.offers) w.channels
-offers_from rs w marks ok = each_map (ChannelOk rs w.run marks) (λ (c : Channel). OffersFrom w.run.number c.side.offers)
-    (λ c k. each_map (OfferOk w.run.next_offer marks c.side.name) (λ (o : Offer). o.id.run ≤ w.run.number) (λ o x. below_run o.id w.run.next_offer w.run.number x.2 ok.offer_run) c.side.offers k.0.0) w.channels ok.channels
+offers_from rs w marks ok = each-map (ChannelOk rs w.run marks) (λ (c : Channel). OffersFrom w.run.number c.side.offers)
+    (λ c k. each-map (OfferOk w.run.next_offer marks c.side.name) (λ (o : Offer). o.id.run ≤ w.run.number) (λ o x. below_run o.id w.run.next_offer w.run.number x.2 ok.offer_run) c.side.offers k.0.0) w.channels ok.channels
 
 happening_later : (A : Numbered → ℕ → Type 0) (n m : ℕ) → n ≤ m → (h : Happening) → HappeningOk A n h → HappeningOk A m h
 happening_later A n m le (At agent (ByMaster (LaunchFrom framework ids jobs))) t = le_trans t le
@@ -346,7 +343,7 @@ pub worlds_from : (A : Numbered → ℕ → Type 0) (n : ℕ) (rs : List RecordP
 worlds_from A n rs [] w marks le t ok k = k
 worlds_from A n rs (h ∷ hs) w marks le t ok k =
     worlds_from A n rs hs (after w h) (marks_by w h ++ marks) (le_trans le (number_after w h)) t.1 (origin_all rs (h ∷ []) w marks ok)
-    (each_map (ChannelFrom w.run.number) (ChannelFrom (after w h).run.number) (channel_later w.run.number (after w h).run.number (number_after w h)) (after w h).channels
+    (each-map (ChannelFrom w.run.number) (ChannelFrom (after w h).run.number) (channel_later w.run.number (after w h).run.number (number_after w h)) (after w h).channels
     (after_ok A w.run.number w h (happening_later A n w.run.number le h t.0) (offers_from rs w marks ok) k))
 
 -- the opening

@@ -1,53 +1,54 @@
-pub mod Ids
-pub mod Orders
-pub mod Placed
-pub mod Amounts
-pub mod Commands
-pub mod States
-pub mod Drafts
-pub mod Issue
-pub mod Master
-pub mod Kept
-pub mod Room
-pub mod Opened
-pub mod SideNames
-pub mod Worlds
-pub mod Sent
-pub mod Openings
-pub mod Names
-pub mod Stopped
-pub mod Owners
-pub mod Alone
-pub mod Acks
-pub mod Registers
-pub mod Launches
-pub mod Sources
 pub mod Accepts
-pub mod Histories
-pub mod Told
-pub mod Origins
-pub mod Trails
-pub mod SideTrails
-pub mod OriginWorlds
-pub mod Premises
-pub mod Events
-pub mod Counts
-pub mod Gapless
-pub mod Offered
-pub mod Growth
-pub mod AllIssued
-pub mod DraftOrigins
 pub mod AcknowledgedAt
 pub mod AcknowledgedGrowth
-mod Lists
-mod OriginSent
-mod Silent
-mod Quiet
+pub mod Acks
+pub mod AllIssued
+pub mod Alone
+pub mod Amounts
 mod Calls
-mod Offers
+pub mod Commands
+pub mod Counts
+pub mod DraftOrigins
+pub mod Drafts
 mod Entries
+pub mod Events
+pub mod Gapless
 mod Gone
-mod Waits
-mod Tasks
+pub mod Growth
+pub mod Histories
+pub mod Ids
+pub mod Issue
+pub mod Kept
+pub mod Launches
+mod Lists
+pub mod Master
+pub mod Names
+pub mod Offered
+mod Offers
 mod Once
+pub mod Opened
+pub mod Openings
+pub mod Orders
 mod OriginAcks
+mod OriginSent
+pub mod OriginWorlds
+pub mod Origins
+pub mod Owners
+pub mod Placed
+pub mod Premises
+mod Quiet
+pub mod Registers
+pub mod Room
+pub mod Sent
+pub mod Shared
+pub mod SideNames
+pub mod SideTrails
+mod Silent
+pub mod Sources
+pub mod States
+pub mod Stopped
+mod Tasks
+pub mod Told
+pub mod Trails
+mod Waits
+pub mod Worlds

@@ -26,7 +26,3 @@ pub each_among : {A : Type 0} (P : A → Type 0) (xs : List A) (x : A) → Each 
 each_among P [] x h k = absurd k
 each_among P (y ∷ ys) x h (inl e) = subst P e h.0
 each_among P (y ∷ ys) x h (inr k) = each_among P ys x h.1 k
-
-pub each_those : {A : Type 0} (P : A → Type 0) (xs : List A) → ((x : A) → IsAmong x xs → P x) → Each P xs
-each_those P [] f = tt
-each_those P (x ∷ xs) f = (f x (inl refl), each_those P xs (λ y k. f y (inr k)))

@@ -20,9 +20,11 @@ use Rattle.cluster_model.specs.Agents.{Agent}
 use Rattle.cluster_model.specs.Sides.{Side, new_run, torn_down, unended, oldest_again, received_update, forget, forget_all, last_session, opened, shut, halted, restarted}
 use Rattle.cluster_model.specs.Channels.{InRun, with_side, halted_run}
 use Rattle.cluster_safe.specs.Facts.{Less, UpTo, Past, Within, live, stakes, EndsKept, EndedAt, AtMost, StateOk, DownOk, IsReportOf, UpOk, drafted, mails_of, states_of, OpenOk, Facts}
-use Rattle.cluster_safe.proofs.Ids.{same_is, less_upto, upto_trans}
-use Rattle.cluster_safe.proofs.Orders.{each_append, each_map, each_both, live_of_ended, each_live, within_mapped, within_filtered}
+use Rattle.cluster_safe.proofs.Ids.{less_upto, upto_trans}
+use Rattle.cluster_safe.proofs.Orders.{live_of_ended, each_live, within_mapped, within_filtered}
 use Rattle.cluster_safe.proofs.Commands.{ends_torn_wider}
+use Rattle.names_core.proofs.IdOrder.{same-is}
+use Rattle.names_core.proofs.Lists.{each-append, each-map, each_both}
 
 -- the channel with another side, and with other mails to the agent
 abbrev pub sided : InRun → Side → InRun
@@ -84,10 +86,10 @@ facts_helloed p l f = record {
   unsent = f.unsent;
   when_open = λ e. let o = f.when_open e in record { session = o.session; told = o.told; issued = o.issued; known = o.known; torn = o.torn; covered = o.covered };
   when_shut = λ e. let o = f.when_shut e in record { offers = o.offers; booked = o.booked; closed = o.closed };
-  states = each_map (StateOk p l.next_key l.total) (StateOk (helloed_past p l.number) l.next_key l.total) (λ a s. record { owns = s.owns; told = s.told; peak = s.peak; applied = s.applied; distinct = s.distinct; order = s.order; below = s.below; room = s.room; ends = s.ends; grown = s.grown }) (states_of l) f.states;
-  downs = each_append (DownOk (helloed_past p l.number)) l.to_agent (Hello l.number l.closed ∷ []) (each_map (DownOk p) (DownOk (helloed_past p l.number)) down l.to_agent f.downs) (le_refl l.number, tt);
-  ups = each_map (UpOk p l.next_key (states_of l)) (UpOk (helloed_past p l.number) l.next_key (states_of l)) (up (states_of l)) l.to_master f.ups;
-  pending = each_map (UpOk p l.next_key (drafted l.draft)) (UpOk (helloed_past p l.number) l.next_key (drafted l.draft)) (up (drafted l.draft)) (mails_of l.draft) f.pending;
+  states = each-map (StateOk p l.next_key l.total) (StateOk (helloed_past p l.number) l.next_key l.total) (λ a s. record { owns = s.owns; told = s.told; peak = s.peak; applied = s.applied; distinct = s.distinct; order = s.order; below = s.below; room = s.room; ends = s.ends; grown = s.grown }) (states_of l) f.states;
+  downs = each-append (DownOk (helloed_past p l.number)) l.to_agent (Hello l.number l.closed ∷ []) (each-map (DownOk p) (DownOk (helloed_past p l.number)) down l.to_agent f.downs) (le_refl l.number, tt);
+  ups = each-map (UpOk p l.next_key (states_of l)) (UpOk (helloed_past p l.number) l.next_key (states_of l)) (up (states_of l)) l.to_master f.ups;
+  pending = each-map (UpOk p l.next_key (drafted l.draft)) (UpOk (helloed_past p l.number) l.next_key (drafted l.draft)) (up (drafted l.draft)) (mails_of l.draft) f.pending;
 }
   where
     down : (m : MasterMail) → DownOk p m → DownOk (helloed_past p l.number) m
@@ -95,7 +97,7 @@ facts_helloed p l f = record {
     down (Issued session number what) h = h
 
     up : (ags : List Agent) (m : AgentMail) → UpOk p l.next_key ags m → UpOk (helloed_past p l.number) l.next_key ags m
-    up ags (Report session run tasks total) h = (h.0, h.1, each_map (IsReportOf p session tasks total) (IsReportOf (helloed_past p l.number) session tasks total) (λ a k. record { reached = k.reached; owns = k.owns; same = k.same; covered = k.covered }) ags h.2)
+    up ags (Report session run tasks total) h = (h.0, h.1, each-map (IsReportOf p session tasks total) (IsReportOf (helloed_past p l.number) session tasks total) (λ a k. record { reached = k.reached; owns = k.owns; same = k.same; covered = k.covered }) ags h.2)
     up ags (Applied session count) h = h
     up ags (Update session key k state ended) h = h
 
@@ -114,7 +116,7 @@ facts_lost p l f is = record {
   unsent = f.unsent;
   when_open = λ (e : false ≡ true). absurd cc;
   when_shut = λ e. record { offers = refl; booked = refl; closed = inl (o.told, le_of_eq (sym o.session)) };
-  states = each_map (StateOk p l.next_key l.total) (StateOk p l.next_key []) (state_shut p l.next_key l.total) (states_of l) f.states;
+  states = each-map (StateOk p l.next_key l.total) (StateOk p l.next_key []) (state_shut p l.next_key l.total) (states_of l) f.states;
   downs = f.downs;
   ups = f.ups;
   pending = f.pending;
@@ -131,7 +133,7 @@ up_later p next later ags le (Applied session count) h = h
 up_later p next later ags le (Update session key k state ended) h = λ e. (less_upto key next later (h e).0 le, (h e).1)
 
 pub state_later : (p : Past) (next later : Numbered) (total : List Row) → UpTo next later → (a : Agent) → StateOk p next total a → StateOk p later total a
-state_later p next later total le a s = record { owns = s.owns; told = s.told; peak = s.peak; applied = s.applied; distinct = s.distinct; order = s.order; below = each_map (λ x. Less x.job.key next) (λ x. Less x.job.key later) (λ x lt. less_upto x.job.key next later lt le) (stakes p a) s.below; room = s.room; ends = s.ends; grown = s.grown }
+state_later p next later total le a s = record { owns = s.owns; told = s.told; peak = s.peak; applied = s.applied; distinct = s.distinct; order = s.order; below = each-map (λ x. Less x.job.key next) (λ x. Less x.job.key later) (λ x lt. less_upto x.job.key next later lt le) (stakes p a) s.below; room = s.room; ends = s.ends; grown = s.grown }
 
 pub facts_new_run : (p : Past) (l : InRun) → UpTo l.next_key (first_of_run (1 + l.number)) → Facts p l → Facts p (record { run = new_run (1 + l.number); channel = with_side restarted l.channel })
 facts_new_run p l le f = record {
@@ -140,10 +142,10 @@ facts_new_run p l le f = record {
   unsent = λ key above. f.unsent key (upto_trans l.next_key (first_of_run (1 + l.number)) key le above);
   when_open = λ (e : false ≡ true). absurd cc;
   when_shut = λ e. record { offers = refl; booked = refl; closed = inr (omega (arith, f.run, f.past.runs p.peak)) };
-  states = each_map (StateOk p l.next_key l.total) (StateOk p (first_of_run (1 + l.number)) []) (λ a s. state_later p l.next_key (first_of_run (1 + l.number)) [] le a (state_shut p l.next_key l.total a s)) (states_of l) f.states;
+  states = each-map (StateOk p l.next_key l.total) (StateOk p (first_of_run (1 + l.number)) []) (λ a s. state_later p l.next_key (first_of_run (1 + l.number)) [] le a (state_shut p l.next_key l.total a s)) (states_of l) f.states;
   downs = f.downs;
-  ups = each_map (UpOk p l.next_key (states_of l)) (UpOk p (first_of_run (1 + l.number)) (states_of l)) (up_later p l.next_key (first_of_run (1 + l.number)) (states_of l) le) l.to_master f.ups;
-  pending = each_map (UpOk p l.next_key (drafted l.draft)) (UpOk p (first_of_run (1 + l.number)) (drafted l.draft)) (up_later p l.next_key (first_of_run (1 + l.number)) (drafted l.draft) le) (mails_of l.draft) f.pending;
+  ups = each-map (UpOk p l.next_key (states_of l)) (UpOk p (first_of_run (1 + l.number)) (states_of l)) (up_later p l.next_key (first_of_run (1 + l.number)) (states_of l) le) l.to_master f.ups;
+  pending = each-map (UpOk p l.next_key (drafted l.draft)) (UpOk p (first_of_run (1 + l.number)) (drafted l.draft)) (up_later p l.next_key (first_of_run (1 + l.number)) (drafted l.draft) le) (mails_of l.draft) f.pending;
 }
 
 -- the master is down
@@ -154,7 +156,7 @@ facts_halted p l f = record {
   unsent = f.unsent;
   when_open = λ (e : false ≡ true). absurd cc;
   when_shut = λ e. record { offers = refl; booked = refl; closed = at_open l.is_open refl };
-  states = each_map (StateOk p l.next_key l.total) (StateOk p l.next_key []) (state_shut p l.next_key l.total) (states_of l) f.states;
+  states = each-map (StateOk p l.next_key l.total) (StateOk p l.next_key []) (state_shut p l.next_key l.total) (states_of l) f.states;
   downs = f.downs;
   ups = f.ups;
   pending = f.pending;
@@ -173,7 +175,7 @@ facts_resent p l is f = record {
   when_open = λ e. let o = f.when_open e in record { session = o.session; told = o.told; issued = o.issued; known = o.known; torn = o.torn; covered = o.covered };
   when_shut = λ e. let o = f.when_shut e in record { offers = o.offers; booked = o.booked; closed = o.closed };
   states = f.states;
-  downs = each_append (DownOk p) l.to_agent (oldest_again l.side l.waiting) f.downs (oldest l.waiting refl);
+  downs = each-append (DownOk p) l.to_agent (oldest_again l.side l.waiting) f.downs (oldest l.waiting refl);
   ups = f.ups;
   pending = f.pending;
 }
@@ -210,7 +212,7 @@ above_peak p l session f told lt = at_open l.is_open refl
 
 up_opened : (p : Past) (session : ℕ) (next : Numbered) (ags : List Agent) → p.peak < session → (m : AgentMail) → UpOk p next ags m → UpOk (opened_past p session) next ags m
 up_opened p session next ags lt (Report s run tasks total) h =
-    (h.0, h.1, each_map (IsReportOf p s tasks total) (IsReportOf (opened_past p session) s tasks total) (λ a k. record { reached = k.reached; owns = k.owns; same = k.same; covered = λ g. k.covered (omega arith) }) ags h.2)
+    (h.0, h.1, each-map (IsReportOf p s tasks total) (IsReportOf (opened_past p session) s tasks total) (λ a k. record { reached = k.reached; owns = k.owns; same = k.same; covered = λ g. k.covered (omega arith) }) ags h.2)
 up_opened p session next ags lt (Applied s count) h = (let le = h.0 in omega arith, h.1, λ same. absurd (let le = h.0 in omega arith))
 up_opened p session next ags lt (Update s key k state ended) h = h
 
@@ -225,14 +227,14 @@ facts_opened p l session tasks total f u lt = record {
     known = zero-le;
     issued = sym empty;
     torn = rw empty tt;
-    covered = each_map (IsReportOf p session tasks total) (λ a. Within (live (stakes p a)) (unended tasks)) (λ a k. k.covered above) (states_of l) u.2;
+    covered = each-map (IsReportOf p session tasks total) (λ a. Within (live (stakes p a)) (unended tasks)) (λ a k. k.covered above) (states_of l) u.2;
   };
   when_shut = λ (e : true ≡ false). absurd cc;
   states = each_both (StateOk p l.next_key l.total) (IsReportOf p session tasks total) (StateOk (opened_past p session) l.next_key total)
       (λ a s k. record { owns = k.owns; told = s.told; peak = k.reached; applied = s.applied; distinct = s.distinct; order = s.order; below = s.below; room = s.room; ends = s.ends; grown = s.grown }) (states_of l) f.states u.2;
-  downs = each_map (DownOk p) (DownOk (opened_past p session)) down l.to_agent f.downs;
-  ups = each_map (UpOk p l.next_key (states_of l)) (UpOk (opened_past p session) l.next_key (states_of l)) (up_opened p session l.next_key (states_of l) above) l.to_master f.ups;
-  pending = each_map (UpOk p l.next_key (drafted l.draft)) (UpOk (opened_past p session) l.next_key (drafted l.draft)) (up_opened p session l.next_key (drafted l.draft) above) (mails_of l.draft) f.pending;
+  downs = each-map (DownOk p) (DownOk (opened_past p session)) down l.to_agent f.downs;
+  ups = each-map (UpOk p l.next_key (states_of l)) (UpOk (opened_past p session) l.next_key (states_of l)) (up_opened p session l.next_key (states_of l) above) l.to_master f.ups;
+  pending = each-map (UpOk p l.next_key (drafted l.draft)) (UpOk (opened_past p session) l.next_key (drafted l.draft)) (up_opened p session l.next_key (drafted l.draft) above) (mails_of l.draft) f.pending;
 }
   where
     above : p.peak < session
@@ -266,7 +268,7 @@ covered_received p key k state ended bs a h w =
 
     gone : (b : Booked) → b.ended ≡ false → (received_update key k state ended b).ended ≡ true → Each (λ x. x.key ≢ b.job.key) (live (stakes p a))
     gone b e = cond_both (same b.job.key key) (received b) b (λ c. c.ended ≡ true → Each (λ x. x.key ≢ b.job.key) (live (stakes p a)))
-        (λ d n. subst (λ i. Each (λ x. x.key ≢ i) (live (stakes p a))) (sym (same_is b.job.key key d)) (live_of_ended key (stakes p a) (h (rw e at n))))
+        (λ d n. subst (λ i. Each (λ x. x.key ≢ i) (live (stakes p a))) (sym (same-is b.job.key key d)) (live_of_ended key (stakes p a) (h (rw e at n))))
         (λ d n. absurd (let m : b.ended ≡ true = n in cc))
 
 -- what is forgotten once the agent has applied the commands is not live
@@ -285,7 +287,7 @@ covered_forget p (EndFramework framework) bs a h w =
     other b e = inr (subst (λ i. Each (λ x. x.framework ≢ i) (live (stakes p a))) (sym is) (each_live (λ j. j.framework ≢ framework) (stakes p a) h.0))
       where
         is : b.job.framework ≡ framework
-        is = elim (cases_Bool (same b.job.framework framework)) [ inl d ↦ same_is b.job.framework framework d | inr d ↦ absurd (let n : true ≡ false = rw d at e in cc) ]
+        is = elim (cases_Bool (same b.job.framework framework)) [ inl d ↦ same-is b.job.framework framework d | inr d ↦ absurd (let n : true ≡ false = rw d at e in cc) ]
 
 pub covered_forget_all : (p : Past) (ws : List Command) (bs : List Booked) (a : Agent) → EndsKept ws (stakes p a) → Within (live (stakes p a)) (unended bs) → Within (live (stakes p a)) (unended (forget_all ws bs))
 covered_forget_all p [] bs a h w = w

@@ -14,9 +14,10 @@ use Rattle.cluster_model.specs.Sides.{Run, Side, MakeOffer, may_offer, offered, 
 use Rattle.cluster_model.specs.Masters.{Master, Framework, AtSide, Moved, past_side, at_this_side, at_side, move, move_all, moved, unmoved, on_stream}
 use Rattle.cluster_model.specs.Rounds.{Client, clients_of, totals_of, comes_before, first_client, is_subscribed, refuses, is_eligible, pick, Round, offers_to, offers_free, free, visits, round, entered_on, entered, offer_events, offers_of, making, allocated}
 use Rattle.cluster_safe.specs.Offered.{IsAmong, IsOfferedOn, IsSubscribed, IsSentOffer}
-use Rattle.cluster_safe.proofs.Ids.{same_refl}
-use Rattle.cluster_safe.proofs.Orders.{each_append}
-use Rattle.cluster_safe.proofs.Drafts.{both_true}
+use Rattle.cluster_safe.proofs.Shared.{each_among}
+use Rattle.names_core.proofs.IdOrder.{same_itself}
+use Rattle.names_core.proofs.Lists.{each-append}
+use Rattle.std.proofs.lemmas.Bool.{and_parts}
 
 abbrev HasStream : List Framework → Numbered → Type 0
 HasStream fs framework = (stream : Numbered) × IsSubscribed fs framework stream
@@ -30,10 +31,10 @@ a_stream (Some s) e = (s, refl)
 eligible : (fs : List Framework) (now : ℕ) (agent : List ℕ) (rest : List Row) (cs : List Client) → Each (λ c. IsAmong c.framework fs) cs → Each (λ c. HasStream fs c.framework.id) (filter (is_eligible now agent rest) cs)
 eligible fs now agent rest [] h = tt
 eligible fs now agent rest (c ∷ cs) h = cond_both (is_eligible now agent rest c) (c ∷ filter (is_eligible now agent rest) cs) (filter (is_eligible now agent rest) cs) (Each (λ c. HasStream fs c.framework.id))
-    (λ e. (of (both_true (is_subscribed c.framework.stream && not c.framework.suppressed) (not (list_any (refuses now agent rest) c.framework.filters)) e), eligible fs now agent rest cs h.1)) (λ e. eligible fs now agent rest cs h.1)
+    (λ e. (of (and_parts (is_subscribed c.framework.stream && not c.framework.suppressed) (not (list_any (refuses now agent rest) c.framework.filters)) e), eligible fs now agent rest cs h.1)) (λ e. eligible fs now agent rest cs h.1)
   where
     of : ((is_subscribed c.framework.stream && not c.framework.suppressed) ≡ true) × (not (list_any (refuses now agent rest) c.framework.filters) ≡ true) → HasStream fs c.framework.id
-    of e = let s = a_stream c.framework.stream (both_true (is_subscribed c.framework.stream) (not c.framework.suppressed) e.0).0 in (s.0, (c.framework, h.0, refl, s.1))
+    of e = let s = a_stream c.framework.stream (and_parts (is_subscribed c.framework.stream) (not c.framework.suppressed) e.0).0 in (s.0, (c.framework, h.0, refl, s.1))
 
 abbrev IfAny : (Client → Type 0) → Option Client → Type 0
 IfAny P None = ⊤
@@ -49,7 +50,7 @@ AllHave fs gs = Each (λ (g : MadeOffer). HasStream fs g.offer.framework) gs
 
 offers_have : (fs : List Framework) (r : Round) (agent : List ℕ) (rest : List Row) (o : Option Client) → IfAny (λ c. HasStream fs c.framework.id) o → AllHave fs r.made → AllHave fs (offers_to r agent rest o).made
 offers_have fs r agent rest None k h = h
-offers_have fs r agent rest (Some c) k h = each_append (λ (g : MadeOffer). HasStream fs g.offer.framework) r.made (record { agent = agent; offer = record { id = r.next; framework = c.framework.id; resources = rest } } ∷ []) h (k, tt)
+offers_have fs r agent rest (Some c) k h = each-append (λ (g : MadeOffer). HasStream fs g.offer.framework) r.made (record { agent = agent; offer = record { id = r.next; framework = c.framework.id; resources = rest } } ∷ []) h (k, tt)
 
 free_have : (fs : List Framework) (ws : List RoleWeight) (now : ℕ) (totals : List Row) (cs : List Client) (r : Round) (agent : List ℕ) (rows : List Row) → Each (λ c. IsAmong c.framework fs) cs → AllHave fs r.made → AllHave fs (offers_free ws now totals cs r agent rows).made
 free_have fs ws now totals cs r agent [] k h = h
@@ -63,10 +64,6 @@ visits_have fs ws now totals cs (s ∷ ss) r k h = visits_have fs ws now totals 
 each_grown : {A B : Type 0} (P Q : A → Type 0) (f : A → B) (R : B → Type 0) → ((x : A) → P x → R (f x)) → (xs : List A) → Each P xs → Each R (map f xs)
 each_grown P Q f R g [] h = tt
 each_grown P Q f R g (x ∷ xs) h = (g x h.0, each_grown P Q f R g xs h.1)
-
-each_among : {A : Type 0} (P : A → Type 0) (xs : List A) → ((x : A) → IsAmong x xs → P x) → Each P xs
-each_among P [] f = tt
-each_among P (x ∷ xs) f = (f x (inl refl), each_among P xs (λ y h. f y (inr h)))
 
 clients_are : (m : Master) → Each (λ c. IsAmong c.framework m.registers.frameworks) (clients_of m)
 clients_are m = each_grown (λ f. IsAmong f m.registers.frameworks) (λ f. ⊤) _ (λ (c : Client). IsAmong c.framework m.registers.frameworks) (λ f h. h) m.registers.frameworks (each_among (λ f. IsAmong f m.registers.frameworks) m.registers.frameworks (λ f h. h))
@@ -91,7 +88,7 @@ GrownOne Q old new = (more : List Offer) × (new.offers ≡ old.offers ++ more) 
 
 grown_offered : (Q : Offer → Type 0) (run : Run) (old s : Side) (o : Offer) → Q o → GrownOne Q old s → GrownOne Q old (offered run s o).side
 grown_offered Q run old s o q g = cond_both (may_offer run s o) (sends_nothing (record run { next_offer = following o.id }) (record s { offers = s.offers ++ o ∷ [] })) (sends_nothing run s) (λ x. GrownOne Q old x.side)
-    (λ e. (g.0 ++ o ∷ [], ap (λ xs. xs ++ o ∷ []) g.1 ∙ append_assoc old.offers g.0 (o ∷ []), each_append Q g.0 (o ∷ []) g.2 (q, tt))) (λ e. g)
+    (λ e. (g.0 ++ o ∷ [], ap (λ xs. xs ++ o ∷ []) g.1 ∙ append_assoc old.offers g.0 (o ∷ []), each-append Q g.0 (o ∷ []) g.2 (q, tt))) (λ e. g)
 
 grown_at : (Q : Offer → Type 0) (agent : List ℕ) (o : Offer) (run : Run) (olds ss : List Side) → Q o → Grown Q olds ss → Grown Q olds (at_side agent (MakeOffer o) run ss).sides
 grown_at Q agent o run [] [] q g = tt
@@ -113,7 +110,7 @@ entered_have Q [] news g = tt
 entered_have Q (old ∷ olds) [] g = tt
 entered_have Q (old ∷ olds) (new ∷ news) g =
     let more : drop (length old.offers) new.offers ≡ g.0.0 = ap (drop (length old.offers)) g.0.1 ∙ drop-append_seam old.offers g.0.0 in
-    each_append (λ (g : MadeOffer). Q g.offer) (entered_on old new) (entered olds news) (entered_one Q new.name (drop (length old.offers) new.offers) (subst (Each Q) (sym more) g.0.2)) (entered_have Q olds news g.1)
+    each-append (λ (g : MadeOffer). Q g.offer) (entered_on old new) (entered olds news) (entered_one Q new.name (drop (length old.offers) new.offers) (subst (Each Q) (sym more) g.0.2)) (entered_have Q olds news g.1)
 
 -- what is told
 
@@ -124,7 +121,7 @@ kept_among framework g (x ∷ gs) h e = by (same x.offer.framework framework) re
     by : (b : Bool) → same x.offer.framework framework ≡ b → (IsAmong g gs → IsAmong g (filter (λ (h : MadeOffer). same h.offer.framework framework) gs)) → IsAmong g (x ∷ gs) → IsAmong g (if b then x ∷ filter (λ (h : MadeOffer). same h.offer.framework framework) gs else filter (λ (h : MadeOffer). same h.offer.framework framework) gs)
     by true t rest (inl is) = inl is
     by true t rest (inr more) = inr (rest more)
-    by false t rest (inl is) = absurd (let s : same x.offer.framework framework ≡ true = subst (λ n. same x.offer.framework n ≡ true) (ap (λ (y : MadeOffer). y.offer.framework) is ∙ e) (same_refl x.offer.framework) in cc)
+    by false t rest (inl is) = absurd (let s : same x.offer.framework framework ≡ true = subst (λ n. same x.offer.framework n ≡ true) (ap (λ (y : MadeOffer). y.offer.framework) is ∙ e) (same_itself x.offer.framework) in cc)
     by false t rest (inr more) = rest more
 
 mapped_among : {A B : Type 0} (f : A → B) (x : A) (ys : List A) → IsAmong x ys → IsAmong (f x) (map f ys)

@@ -16,8 +16,8 @@ use Rattle.cluster_safe.specs.Offered.{IsAmong, IsSentOffer}
 use Rattle.cluster_safe.specs.Origin.{Mark, Made, Used, marks_at, marks_in, trail}
 use Rattle.cluster_safe.proofs.Alone.{master_alone}
 use Rattle.cluster_safe.proofs.Offered.{offers_told}
-use Rattle.cluster_safe.proofs.Orders.{each_append, each_map}
 use Rattle.cluster_safe.proofs.Lists.{among_front, among_behind, among_either, each_among}
+use Rattle.names_core.proofs.Lists.{each-append, each-map}
 
 -- lists
 
@@ -93,7 +93,7 @@ record SidesMade (olds : List Side) (cs news : List Channel) (marks : List Mark)
 in_front_of : (old : Side) (olds : List Side) (s new : Channel) (cs : List Channel) (marks : List Mark) → SideMade old s.side new.side marks → Grew olds (sides_of cs) → SidesMade (old ∷ olds) (s ∷ cs) (new ∷ cs) marks
 in_front_of old olds s new cs marks one grew = record {
   grew = (one.grew, grew);
-  are = each_map (IsEnteredOn old new.side) (IsEntered (old ∷ olds) (new.side ∷ sides_of cs)) front marks one.are;
+  are = each-map (IsEnteredOn old new.side) (IsEntered (old ∷ olds) (new.side ∷ sides_of cs)) front marks one.are;
   wider = λ g h. wider g (among_either g (entered_on old s.side) (entered olds (sides_of cs)) h);
 }
   where
@@ -108,7 +108,7 @@ in_front_of old olds s new cs marks one grew = record {
 behind_it : (old : Side) (olds : List Side) (c : Channel) (cs news : List Channel) (marks : List Mark) → GrewOne old c.side → SidesMade olds cs news marks → SidesMade (old ∷ olds) (c ∷ cs) (c ∷ news) marks
 behind_it old olds c cs news marks one rest = record {
   grew = (one, rest.grew);
-  are = each_map (IsEntered olds (sides_of news)) (IsEntered (old ∷ olds) (c.side ∷ sides_of news)) behind marks rest.are;
+  are = each-map (IsEntered olds (sides_of news)) (IsEntered (old ∷ olds) (c.side ∷ sides_of news)) behind marks rest.are;
   wider = λ g h. wider g (among_either g (entered_on old c.side) (entered olds (sides_of cs)) h);
 }
   where
@@ -133,7 +133,7 @@ made_at agent offer run (old ∷ olds) (c ∷ cs) grew = by (bytes_eq c.side.nam
 -- a whole round
 
 entered_wider : (olds : List Side) (cs news : List Channel) (marks made : List Mark) → SidesMade olds cs news made → Each (IsEntered olds (sides_of cs)) marks → Each (IsEntered olds (sides_of news)) (made ++ marks)
-entered_wider olds cs news marks made step h = each_append (IsEntered olds (sides_of news)) made marks step.are (each_map (IsEntered olds (sides_of cs)) (IsEntered olds (sides_of news)) wider marks h)
+entered_wider olds cs news marks made step h = each-append (IsEntered olds (sides_of news)) made marks step.are (each-map (IsEntered olds (sides_of cs)) (IsEntered olds (sides_of news)) wider marks h)
   where
     wider : (mark : Mark) → IsEntered olds (sides_of cs) mark → IsEntered olds (sides_of news) mark
     wider (Made g) k = step.wider g k
@@ -152,7 +152,7 @@ IsToldBy ws m (Made g) = IsSentOffer m.registers.frameworks (allocated ws m).eve
 IsToldBy ws m (Used u) = ⊥
 
 pub round_told : (c : Cluster) → Each (IsToldBy c.weights (master_of c)) (trail (map happening_of (allocated c.weights (master_of c)).moves) c.world [])
-round_told c = each_map (IsEntered (sides_of c.world.channels) (moved (master_of c) (making c.weights (master_of c))).sides) (IsToldBy c.weights (master_of c)) told (trail (map happening_of (making c.weights (master_of c))) c.world [])
+round_told c = each-map (IsEntered (sides_of c.world.channels) (moved (master_of c) (making c.weights (master_of c))).sides) (IsToldBy c.weights (master_of c)) told (trail (map happening_of (making c.weights (master_of c))) c.world [])
     (subst (λ news. Each (IsEntered (sides_of c.world.channels) news) (trail (map happening_of (making c.weights (master_of c))) c.world [])) (ap (λ (m : Master). m.sides) (master_alone c (allocated c.weights (master_of c))))
     (all_made (sides_of c.world.channels) (round c.weights (master_of c)) c.world [] (grew_first (sides_of c.world.channels)) tt))
   where

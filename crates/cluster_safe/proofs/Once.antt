@@ -26,11 +26,10 @@ use Rattle.cluster_safe.specs.Facts.{AtMost}
 use Rattle.cluster_safe.specs.Listed.{IsListed}
 use Rattle.cluster_safe.specs.Offered.{IsAmong}
 use Rattle.cluster_safe.specs.Origin.{Mark, Made, Used, Use, IsOneOf, IsTrail, From, IsCovered, jobs_of, jobs_on, trail}
-use Rattle.cluster_safe.proofs.Drafts.{both_true}
 use Rattle.cluster_safe.proofs.Histories.{trail_append}
 use Rattle.cluster_safe.proofs.Openings.{origin_opened}
 use Rattle.cluster_safe.proofs.Origins.{Any, each_one, in_front_of, in_behind}
-use Rattle.cluster_safe.proofs.Orders.{each_map, each_both, each_right}
+use Rattle.cluster_safe.proofs.Orders.{each_right}
 use Rattle.cluster_safe.proofs.OriginWorlds.{ChannelOk, OriginOk, origin_all, has_origin}
 use Rattle.cluster_safe.proofs.Stopped.{all_from, apart_one, on_of}
 use Rattle.cluster_safe.proofs.Told.{DownTold}
@@ -38,13 +37,17 @@ use Rattle.cluster_safe.proofs.Trails.{DistinctOffers, offers_kept}
 use Rattle.cluster_safe.specs.Entries.{Moment, noted, moments_from, moments}
 use Rattle.cluster_safe.specs.Sources.{IsAccepted, IsSource, LaunchedBy, Traced}
 use Rattle.cluster_safe.specs.Launches.{Accepts, IsCurrent, Uses, UsesNone, UsedOnce, IsLaunchOf, WasSent, Issues, launch_of, launches_in, Launches, IsLaunched, IsLaunchedOrRecorded, HaveOrigin, Origin}
-use Rattle.cluster_safe.proofs.Lists.{each_among, each_those}
+use Rattle.cluster_safe.proofs.Lists.{each_among}
 use Rattle.cluster_safe.proofs.OriginSent.{IsTick}
 use Rattle.cluster_safe.proofs.Waits.{AllWait, IsOld, all_wait, open_waits, ticks_again}
 use Rattle.cluster_safe.proofs.Silent.{unmarked, hellos_silent, trail_silent, trail_onto}
-use Rattle.cluster_safe.proofs.Entries.{FromSide, Stood, Launching, Sourced, step_sourced, after_append}
+use Rattle.cluster_safe.proofs.Entries.{FromSide, Stood, Launching, Sourced, step_sourced}
 use Rattle.cluster_safe.proofs.Gone.{Gone, all_gone, uses_gone, current_not_gone}
-use Rattle.cluster_safe.proofs.Tasks.{LaunchedFrom, launched_by, trail_right, one_of_either}
+use Rattle.cluster_safe.proofs.Tasks.{LaunchedFrom, launched_by, trail_right}
+use Rattle.cluster_model.proofs.Chains.{after_all-append, keys_right}
+use Rattle.cluster_safe.proofs.Shared.{each_among as each_those, one_split}
+use Rattle.names_core.proofs.Lists.{each-map, each_both}
+use Rattle.std.proofs.lemmas.Bool.{and_parts}
 
 -- histories
 
@@ -102,16 +105,16 @@ once_in records m marks ok (Used u) h =
 goes_on : (records : List RecordParts) (start : World) (h : History) (older : List Moment) (s : Marked) (r : Result Done ClusterFault) → step_marked h.state s ≡ r → Sourced h.state s r → Goes records start h older → Goes records start (extended h s.step r) (noted h.state s r older)
 goes_on records start h older s (Err refusal) e src goes = goes
 goes_on records start h older s (Ok d) e src goes = record {
-  path = src.0 ∙ (ap (after_all d.happenings) goes.path ∙ sym (after_append h.happenings d.happenings start));
+  path = src.0 ∙ (ap (after_all d.happenings) goes.path ∙ sym (after_all-append h.happenings d.happenings start));
   origin = subst (OriginOk records d.after.world) (sym trails) next;
-  came = (trail d.happenings h.state.world [], marks, trails ∙ trail_onto d.happenings h.state.world [] marks, src.1, src.2, each_map (Stood m) OnceIn (once_in records m marks goes.origin) (trail d.happenings h.state.world []) src.2, record { launches = src.3; again = ticks_again h.state s d goes.waits e; before = λ to key w l. sent_key records h.state marks to key goes.origin w l }, goes.came);
+  came = (trail d.happenings h.state.world [], marks, trails ∙ trail_onto d.happenings h.state.world [] marks, src.1, src.2, each-map (Stood m) OnceIn (once_in records m marks goes.origin) (trail d.happenings h.state.world []) src.2, record { launches = src.3; again = ticks_again h.state s d goes.waits e; before = λ to key w l. sent_key records h.state marks to key goes.origin w l }, goes.came);
   waits = subst AllWait (sym src.0) (all_wait d.happenings h.state.world goes.waits);
   spent = (
     (λ o u. uses_gone records h.state s d marks o goes.origin e u),
-    each_map (λ (n : Moment). (o : Offer) → Uses n o → Gone o.id h.state.world) (λ (n : Moment). (o : Offer) → Uses n o → Gone o.id d.after.world) (λ n f o u. subst (Gone o.id) (sym src.0) (all_gone records o.id d.happenings h.state.world marks goes.origin (f o u))) older goes.spent,
+    each-map (λ (n : Moment). (o : Offer) → Uses n o → Gone o.id h.state.world) (λ (n : Moment). (o : Offer) → Uses n o → Gone o.id d.after.world) (λ n f o u. subst (Gone o.id) (sym src.0) (all_gone records o.id d.happenings h.state.world marks goes.origin (f o u))) older goes.spent,
   );
   once = (
-    (λ o u. each_map (λ (n : Moment). (p : Offer) → Uses n p → Gone p.id h.state.world) (UsesNone o.id) (λ n f p v is. current_not_gone h.state u.agent o p.id u.current (f p v) (sym is)) older goes.spent),
+    (λ o u. each-map (λ (n : Moment). (p : Offer) → Uses n p → Gone p.id h.state.world) (UsesNone o.id) (λ n f p v is. current_not_gone h.state u.agent o p.id u.current (f p v) (sym is)) older goes.spent),
     goes.once,
   );
 }
@@ -164,7 +167,7 @@ sent_launch : (j : Job) (outs : List Sent) → IsOneOf j (launches_in outs) → 
 sent_launch j [] h = absurd h
 sent_launch j (CallSent ∷ outs) h = let r = sent_launch j outs h in (r.0, inr r.1, r.2)
 sent_launch j (MailToMaster to ∷ outs) h = let r = sent_launch j outs h in (r.0, inr r.1, r.2)
-sent_launch j (MailToAgent to ∷ outs) h = by (λ k. sent_launch j outs k) (one_of_either (launch_of to.mail) (launches_in outs) j h)
+sent_launch j (MailToAgent to ∷ outs) h = by (λ k. sent_launch j outs k) (one_split (launch_of to.mail) (launches_in outs) j h)
   where
     by : (IsOneOf j (launches_in outs) → (x : ToAgent) × IsAmong (MailToAgent x) outs × IsLaunchOf j.key x.mail) → IsOneOf j (launch_of to.mail) ⊎ IsOneOf j (launches_in outs) → (x : ToAgent) × IsAmong (MailToAgent x) (MailToAgent to ∷ outs) × IsLaunchOf j.key x.mail
     by more (inl k) = (to, inl refl, launch_is to.mail j k)
@@ -187,10 +190,6 @@ jobs_append : (own rest : List Mark) → jobs_of (own ++ rest) ≡ jobs_of own +
 jobs_append [] rest = refl
 jobs_append (Made g ∷ own) rest = jobs_append own rest
 jobs_append (Used u ∷ own) rest = ap (λ js. u.jobs ++ js) (jobs_append own rest) ∙ sym (append_assoc u.jobs (jobs_of own) (jobs_of rest))
-
-keys_right : (js is : List Job) → KeysOnce (js ++ is) → KeysOnce is
-keys_right [] is h = h
-keys_right (j ∷ js) is h = keys_right js is h.1
 
 keys_apart : (js is : List Job) (i j : Job) → KeysOnce (js ++ is) → IsOneOf i js → IsOneOf j is → j.key ≢ i.key
 keys_apart [] is i j h k l = absurd k
@@ -224,7 +223,7 @@ none_issue records (m ∷ older) marks key c f = (
 
 named_all : (framework : Numbered) (ids : List Numbered) (os : List Offer) → Each (λ o. is_among ids o.id ≡ true) (filter (is_named framework ids) os)
 named_all framework ids [] = tt
-named_all framework ids (o ∷ os) = let rest = named_all framework ids os in cond_both (is_named framework ids o) (o ∷ filter (is_named framework ids) os) (filter (is_named framework ids) os) (Each (λ p. is_among ids p.id ≡ true)) (λ e. ((both_true (same o.framework framework) (is_among ids o.id) e).1, rest)) (λ e. rest)
+named_all framework ids (o ∷ os) = let rest = named_all framework ids os in cond_both (is_named framework ids o) (o ∷ filter (is_named framework ids) os) (filter (is_named framework ids) os) (Each (λ p. is_among ids p.id ≡ true)) (λ e. ((and_parts (same o.framework framework) (is_among ids o.id) e).1, rest)) (λ e. rest)
 
 uses_of : (m : Moment) (u : Use) → IsAccepted m u → FromSide m u → IsCovered u → Each (Uses m) u.offers
 uses_of m u a side covered = each_those (Uses m) u.offers (λ o k. record {
@@ -256,9 +255,9 @@ launches_first records m older agent j own rest stood once sends came keys used 
   once = each_among OnceIn own (Used u) once f.1;
   used = uses;
   named = l.covered.named;
-  whose = each_map (λ (o : Offer). o.framework ≡ u.framework) (λ (o : Offer). o.framework ≡ j.framework) (λ o e. e ∙ theirs) u.offers l.covered.own_offers;
+  whose = each-map (λ (o : Offer). o.framework ≡ u.framework) (λ (o : Offer). o.framework ≡ j.framework) (λ o e. e ∙ theirs) u.offers l.covered.own_offers;
   made = l.offered;
-  apart = each_map (Uses m) (λ o. Each (UsesNone o.id) older) (λ o v. used.0 o v) u.offers uses;
+  apart = each-map (Uses m) (λ o. Each (UsesNone o.id) older) (λ o v. used.0 o v) u.offers uses;
   sum = subst (λ js. AtMost (job_rows js) (offer_rows u.offers)) (sym side.launched) l.covered.sum;
 }
   where
@@ -323,8 +322,8 @@ is_launched records (m ∷ older) marks agent j c is keys once h =
 
 pub history_launches : (setup : Setup) (records : List RecordParts) (steps : List Marked) → GoodOpening setup.run records → Origin records (history setup records steps).state.world (moments setup records steps)
 history_launches setup records steps good = record {
-  tasks = each_map (λ (c : Channel). Each (λ t. From records c.side.name marks t.job) c.agent.durable.tasks) (HaveOrigin records (moments setup records steps))
-      (λ c h. each_map (λ t. From records c.side.name marks t.job) (λ t. IsLaunchedOrRecorded records (moments setup records steps) c.side.name t.job) (λ t k. launched_as c.side.name t.job k) c.agent.durable.tasks h)
+  tasks = each-map (λ (c : Channel). Each (λ t. From records c.side.name marks t.job) c.agent.durable.tasks) (HaveOrigin records (moments setup records steps))
+      (λ c h. each-map (λ t. From records c.side.name marks t.job) (λ t. IsLaunchedOrRecorded records (moments setup records steps) c.side.name t.job) (λ t k. launched_as c.side.name t.job k) c.agent.durable.tasks h)
       (history setup records steps).state.world.channels (has_origin records (history setup records steps).state.world marks goes.origin).tasks;
   offers = goes.once;
 }

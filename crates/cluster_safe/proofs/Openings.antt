@@ -15,12 +15,14 @@ use Rattle.cluster_model.specs.Channels.{open_channel, open_world}
 use Rattle.cluster_model.specs.Openings.{RecordFits, recorded_jobs, recorded_offers, KeysOnce, NamesOnce, GoodOpening}
 use Rattle.cluster_safe.specs.Facts.{Less, live, task_stake, Distinct, AtMost, AllGood}
 use Rattle.cluster_safe.specs.Origin.{IsOneOf, recorded_on, From}
-use Rattle.cluster_safe.proofs.Orders.{each_map, each_right, each_left}
+use Rattle.cluster_safe.proofs.Orders.{each_right, each_left}
 use Rattle.cluster_safe.proofs.Amounts.{tasks_weigh}
 use Rattle.cluster_safe.proofs.Told.{TaskTold}
 use Rattle.cluster_safe.proofs.Origins.{Any, in_behind, in_front_of}
 use Rattle.cluster_safe.proofs.OriginWorlds.{ChannelOk, names_of, OriginOk}
 use Rattle.cluster_safe.proofs.Launches.{TaskFrom, RecordFrom}
+use Rattle.cluster_model.proofs.Chains.{keys_right}
+use Rattle.names_core.proofs.Lists.{each-map}
 
 -- each record of a good opening is a good one
 
@@ -43,10 +45,6 @@ pub once_left : (js is : List Job) → KeysOnce (js ++ is) → KeysOnce js
 once_left [] is h = tt
 once_left (j ∷ js) is h = (each_left (λ i. i.key ≢ j.key) js is h.0, once_left js is h.1)
 
-pub once_right : (js is : List Job) → KeysOnce (js ++ is) → KeysOnce is
-once_right [] is h = h
-once_right (j ∷ js) is h = once_right js is h.1
-
 stakes_fit : (d : RecordParts) → RecordFits d → AtMost (job_rows (live (map task_stake d.tasks))) d.total
 stakes_fit d h name = subst (λ n. n ≤ amount name d.total) (tasks_weigh name d.tasks) (h name)
 
@@ -59,7 +57,7 @@ all_good run (d ∷ ds) f o k u = (
     below = stakes_below run d.tasks (each_left (λ j. j.key.run < run) (map (λ t. t.job) d.tasks) (recorded_jobs ds) k);
     later = o.0;
   },
-  all_good run ds f.1 o.1 (each_right (λ j. j.key.run < run) (map (λ t. t.job) d.tasks) (recorded_jobs ds) k) (once_right (map (λ t. t.job) d.tasks) (recorded_jobs ds) u),
+  all_good run ds f.1 o.1 (each_right (λ j. j.key.run < run) (map (λ t. t.job) d.tasks) (recorded_jobs ds) k) (keys_right (map (λ t. t.job) d.tasks) (recorded_jobs ds) u),
 )
 
 pub opening_good : (run : ℕ) (ds : List RecordParts) → GoodOpening run ds → AllGood run ds
@@ -70,7 +68,7 @@ opening_good run ds g = all_good run ds g.fits g.older g.keys_older g.keys_once
 tasks_from : (run : ℕ) (ts : List RecordedTask) → Each (λ j. j.framework.run < run) (map (λ t. t.job) ts) → Each (λ id. id.run < run) (flat_map (λ t. t.offers) ts) → Each (TaskFrom run) ts
 tasks_from run [] h k = tt
 tasks_from run (t ∷ ts) h k = (
-  (le_of_lt h.0, each_map (λ (id : Numbered). id.run < run) (λ (id : Numbered). id.run ≤ run) (λ id lt. le_of_lt lt) t.offers (each_left (λ (id : Numbered). id.run < run) t.offers (flat_map (λ u. u.offers) ts) k)),
+  (le_of_lt h.0, each-map (λ (id : Numbered). id.run < run) (λ (id : Numbered). id.run ≤ run) (λ id lt. le_of_lt lt) t.offers (each_left (λ (id : Numbered). id.run < run) t.offers (flat_map (λ u. u.offers) ts) k)),
   tasks_from run ts h.1 (each_right (λ (id : Numbered). id.run < run) t.offers (flat_map (λ u. u.offers) ts) k),
 )
 
@@ -112,7 +110,7 @@ origin_opened run ds g = record {
   channels = channels_open ds run ds (λ name j h. h);
   once = subst NamesOnce (sym (open_names ds)) g.names_once;
   trail = record { is = tt; below = tt };
-  keys = record { once = g.keys_once; below = each_map (λ j. j.key.run < run) (λ j. Less j.key (first_of_run run)) (λ j lt. older_key run j.key lt) (recorded_jobs ds) g.keys_older };
+  keys = record { once = g.keys_once; below = each-map (λ j. j.key.run < run) (λ j. Less j.key (first_of_run run)) (λ j lt. older_key run j.key lt) (recorded_jobs ds) g.keys_older };
   key_run = refl;
   offer_run = refl;
 }

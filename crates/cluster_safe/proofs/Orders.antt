@@ -15,23 +15,6 @@ use Rattle.cluster_safe.specs.Facts.{Less, TaskInFlight, Within, Aged, Fades, li
 
 -- Each
 
-pub each_append : {A : Type 0} (P : A → Type 0) (xs ys : List A) → Each P xs → Each P ys → Each P (xs ++ ys)
-each_append P [] ys h k = k
-each_append P (x ∷ xs) ys h k = (h.0, each_append P xs ys h.1 k)
-
-pub each_map : {A : Type 0} (P Q : A → Type 0) → ((x : A) → P x → Q x) → (xs : List A) → Each P xs → Each Q xs
-each_map P Q f [] h = tt
-each_map P Q f (x ∷ xs) h = (f x h.0, each_map P Q f xs h.1)
-
-pub each_both : {A : Type 0} (P Q R : A → Type 0) → ((x : A) → P x → Q x → R x) → (xs : List A) → Each P xs → Each Q xs → Each R xs
-each_both P Q R f [] h k = tt
-each_both P Q R f (x ∷ xs) h k = (f x h.0 k.0, each_both P Q R f xs h.1 k.1)
-
-pub each_at : {A : Type 0} (P : A → Type 0) (xs : List A) (k : ℕ) (x : A) → Each P xs → slice_get xs k ≡ Some x → P x
-each_at P [] k x h e = absurd cc
-each_at P (y ∷ ys) zero x h e = let same : y ≡ x = cc in subst P same h.0
-each_at P (y ∷ ys) (suc k) x h e = each_at P ys k x h.1 e
-
 pub each_right : {A : Type 0} (P : A → Type 0) (xs ys : List A) → Each P (xs ++ ys) → Each P ys
 each_right P [] ys h = h
 each_right P (x ∷ xs) ys h = each_right P xs ys h.1

@@ -20,9 +20,9 @@ use Rattle.cluster_model.specs.Ids.{is_among, is_empty, is_repeated}
 use Rattle.cluster_model.specs.Sides.{Run, Side, Sending, sends_nothing, issue, books, Launching, may_launch, launch_all, is_good, used_offers, without_used, offer_rows, may_offer, SideStep, MakeOffer, Withdraw, LaunchFrom, SendKill, SendAck, SendEnd, SendHello, SendAgain, Lose, side_step}
 use Rattle.cluster_model.specs.Steps.{new_to_agent, new_to_master, sent_in, sent_between}
 use Rattle.cluster_safe.specs.Origin.{launched, use_of, marks_at, marks_of, marks_in, jobs_of}
-use Rattle.cluster_safe.proofs.Drafts.{both_true}
 use Rattle.cluster_safe.proofs.SideNames.{agent_beside}
 use Rattle.cluster_safe.specs.Launches.{launch_of, launches_in}
+use Rattle.std.proofs.lemmas.Bool.{and_parts}
 
 -- a Tick sends again what waits
 abbrev pub IsTick : Step → Type 0
@@ -108,7 +108,7 @@ accept_sends run s framework ids jobs = by (is_good s framework ids && not (is_a
     first = record { used = []; sending = sends_nothing run (without_used s framework ids) }
 
     opened : (is_good s framework ids && not (is_among run.torn framework)) ≡ true → s.is_open ≡ true
-    opened e = (both_true s.is_open (not (is_empty ids)) (both_true (s.is_open && not (is_empty ids)) (not (is_repeated ids)) (both_true (s.is_open && not (is_empty ids) && not (is_repeated ids)) _ (both_true (is_good s framework ids) (not (is_among run.torn framework)) e).0).0).0).0
+    opened e = (and_parts s.is_open (not (is_empty ids)) (and_parts (s.is_open && not (is_empty ids)) (not (is_repeated ids)) (and_parts (s.is_open && not (is_empty ids) && not (is_repeated ids)) _ (and_parts (is_good s framework ids) (not (is_among run.torn framework)) e).0).0).0).0
 
     by : (b : Bool) → (is_good s framework ids && not (is_among run.torn framework)) ≡ b → launches_of (side_step run s (LaunchFrom framework ids jobs)).sent ≡ jobs_of (marks_at run s (LaunchFrom framework ids jobs))
     by true e = rw e (launch_sends framework ids (offer_rows (used_offers s framework ids)) jobs first (opened e) ∙ sym (append-nil (use_of run s framework ids jobs).jobs))

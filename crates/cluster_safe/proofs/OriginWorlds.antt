@@ -14,13 +14,13 @@ use Rattle.cluster_model.specs.Sides.{Run, Side, new_run, offer_rows, Sending, s
 use Rattle.cluster_model.specs.Channels.{Channel, InRun, agent_step, ChannelStep, ByMaster, Receive, ByAgent, received_mail, happens, World, Happening, At, TearDown, Restart, Halt, behind, in_front, at_agent, with_side, halted_run, after, after_all}
 use Rattle.cluster_model.specs.Openings.{recorded_jobs, NamesOnce}
 use Rattle.cluster_safe.specs.Origin.{Use, Mark, Made, Used, launched, use_of, marks_at, marks_of, marks_in, marks_by, trail, IsOneOf, jobs_of, jobs_on, From, HasOrigin}
-use Rattle.cluster_safe.proofs.Orders.{each_map}
 use Rattle.cluster_safe.proofs.Worlds.{Later, later_refl, later_step, below_next_run}
 use Rattle.cluster_safe.proofs.Told.{TaskTold, Carried, told_wider, SendingTold, StepTold, happens_told, shut_told}
 use Rattle.cluster_safe.proofs.Origins.{Any, in_behind, in_front_of, each_of, launch_told}
 use Rattle.cluster_safe.proofs.Trails.{OffersOk, TrailOk, trail_later}
 use Rattle.cluster_safe.proofs.SideNames.{agent_side}
 use Rattle.cluster_safe.proofs.SideTrails.{KeysOk, keys_later, SideAfter, Before, side_after}
+use Rattle.names_core.proofs.Lists.{each-map}
 
 abbrev pub ChannelOk : List RecordParts → Run → List Mark → Channel → Type 0
 ChannelOk rs run marks c = OffersOk run.next_offer marks c.side.name c.side.offers × Carried (From rs c.side.name marks) Any c
@@ -208,11 +208,11 @@ origin_all rs [] w marks ok = ok
 origin_all rs (h ∷ hs) w marks ok = origin_all rs hs (after w h) (marks_by w h ++ marks) (origin_after rs w marks h ok)
 
 pub tasks_from : (rs : List RecordParts) (run : Run) (marks : List Mark) (c : Channel) → ChannelOk rs run marks c → Each (λ t. From rs c.side.name marks t.job) c.agent.durable.tasks
-tasks_from rs run marks c h = each_map (TaskTold (From rs c.side.name marks) Any) (λ t. From rs c.side.name marks t.job) (λ t k. k.0) c.agent.durable.tasks h.1.states.0
+tasks_from rs run marks c h = each-map (TaskTold (From rs c.side.name marks) Any) (λ t. From rs c.side.name marks t.job) (λ t k. k.0) c.agent.durable.tasks h.1.states.0
 
 pub has_origin : (records : List RecordParts) (w : World) (marks : List Mark) → OriginOk records w marks → HasOrigin records w marks
 has_origin records w marks ok = record {
-  tasks = each_map (ChannelOk records w.run marks) (λ c. Each (λ t. From records c.side.name marks t.job) c.agent.durable.tasks) (tasks_from records w.run marks) w.channels ok.channels;
+  tasks = each-map (ChannelOk records w.run marks) (λ c. Each (λ t. From records c.side.name marks t.job) c.agent.durable.tasks) (tasks_from records w.run marks) w.channels ok.channels;
   once = ok.keys.once;
   uses = ok.trail.is;
 }

@@ -15,11 +15,12 @@ use Rattle.cluster_model.specs.Sides.{job_rows, Sending, issue, just_booked, may
 use Rattle.cluster_model.specs.Openings.{KeysOnce}
 use Rattle.cluster_safe.specs.Facts.{Less, UpTo, AtMost}
 use Rattle.cluster_safe.specs.Origin.{launched, IsOneOf}
-use Rattle.cluster_safe.proofs.Ids.{same_is, less_upto, upto_trans, upto_refl, less_after, upto_after, less_differs}
-use Rattle.cluster_safe.proofs.Orders.{each_append, each_map}
+use Rattle.cluster_safe.proofs.Ids.{less_upto, upto_trans, upto_refl, less_after, upto_after, less_differs}
 use Rattle.cluster_safe.proofs.Amounts.{amount-append, covers_is}
-use Rattle.cluster_safe.proofs.Drafts.{both_true}
 use Rattle.cluster_safe.proofs.Told.{SendingTold, issue_told}
+use Rattle.names_core.proofs.IdOrder.{same-is}
+use Rattle.names_core.proofs.Lists.{each-append, each-map}
+use Rattle.std.proofs.lemmas.Bool.{and_parts}
 
 abbrev pub Any : Numbered → ℕ → Type 0
 Any key k = ⊤
@@ -47,7 +48,7 @@ each_one P (i ∷ js) j h (inr k) = each_one P js j h.1 k
 launch_one_told : (P : Job → Type 0) (A : Numbered → ℕ → Type 0) (framework : Numbered) (ids : List Numbered) (budget : List Row) (x : Launching) (job : Job) → (may_launch x.sending.run framework budget x.used job ≡ true → P job) → SendingTold P A x.sending → SendingTold P A (launch_one framework ids budget x job).sending
 launch_one_told P A framework ids budget x job p h =
     cond_both (may_launch x.sending.run framework budget x.used job) (record { used = job.resources ++ x.used; sending = issue (books x.sending job) (Launch job ids) }) x (λ y. SendingTold P A y.sending)
-    (λ e. issue_told P A (books x.sending job) (Launch job ids) (p e) (each_append (λ b. P b.job) x.sending.side.booked (just_booked job ∷ []) h.0 (p e, tt), h.1, h.2)) (λ e. h)
+    (λ e. issue_told P A (books x.sending job) (Launch job ids) (p e) (each-append (λ b. P b.job) x.sending.side.booked (just_booked job ∷ []) h.0 (p e, tt), h.1, h.2)) (λ e. h)
 
 pub launch_told : (P : Job → Type 0) (A : Numbered → ℕ → Type 0) (framework : Numbered) (ids : List Numbered) (budget : List Row) (jobs : List Job) (x : Launching) → Each P (launched framework ids budget jobs x) → SendingTold P A x.sending → SendingTold P A (launch_all framework ids budget jobs x)
 launch_told P A framework ids budget [] x p h = h
@@ -95,9 +96,9 @@ pub record Launches (framework : Numbered) (budget used : List Row) (n m : Numbe
 one_more : (framework : Numbered) (budget used : List Row) (n m : Numbered) (job : Job) (js : List Job) → job.key ≡ n → job.framework ≡ framework → Launches framework budget (job.resources ++ used) (following job.key) m js → Launches framework budget used n m (job ∷ js)
 one_more framework budget used n m job js is whose h = record {
   whose = (whose, h.whose);
-  from = (subst (UpTo n) (sym is) (upto_refl n), each_map (λ j. UpTo (following job.key) j.key) (λ j. UpTo n j.key) (λ j le. upto_trans n (following job.key) j.key at_least le) js h.from);
+  from = (subst (UpTo n) (sym is) (upto_refl n), each-map (λ j. UpTo (following job.key) j.key) (λ j. UpTo n j.key) (λ j le. upto_trans n (following job.key) j.key at_least le) js h.from);
   below = (less_upto job.key (following job.key) m (less_after job.key) h.rises, h.below);
-  once = (each_map (λ j. UpTo (following job.key) j.key) (λ j. j.key ≢ job.key) (λ j le. less_differs job.key (following job.key) j.key (less_after job.key) le) js h.from, h.once);
+  once = (each-map (λ j. UpTo (following job.key) j.key) (λ j. j.key ≢ job.key) (λ j le. less_differs job.key (following job.key) j.key (less_after job.key) le) js h.from, h.once);
   rises = upto_trans n (following job.key) m at_least h.rises;
   sum = λ name. omega (arith, h.sum name, amount-append name (job_rows js) (job.resources ++ used), amount-append name job.resources used, amount-append name (job.resources ++ job_rows js) used, amount-append name job.resources (job_rows js));
 }
@@ -124,8 +125,8 @@ launches_are framework ids budget (job ∷ jobs) x h = by (may_launch x.sending.
         Launches framework budget x.used x.sending.run.next_key (launch_all framework ids budget (job ∷ jobs) x).run.next_key (launched framework ids budget (job ∷ jobs) x)
     by false e stay go = subst At (sym (cond-false (may_launch x.sending.run framework budget x.used job) launching_next x e)) (rw e stay)
     by true e stay go =
-        let first = both_true (same job.key x.sending.run.next_key && same job.framework framework) (covers budget (job.resources ++ x.used)) e in
-        let both = both_true (same job.key x.sending.run.next_key) (same job.framework framework) first.0 in
+        let first = and_parts (same job.key x.sending.run.next_key && same job.framework framework) (covers budget (job.resources ++ x.used)) e in
+        let both = and_parts (same job.key x.sending.run.next_key) (same job.framework framework) first.0 in
         subst At (sym (cond-true (may_launch x.sending.run framework budget x.used job) launching_next x e)) (rw e (one_more framework budget x.used x.sending.run.next_key (launch_all framework ids budget jobs launching_next).run.next_key job (launched framework ids budget jobs launching_next)
-        (same_is job.key x.sending.run.next_key both.0) (same_is job.framework framework both.1)
+        (same-is job.key x.sending.run.next_key both.0) (same-is job.framework framework both.1)
         (subst (λ n. Launches framework budget (job.resources ++ x.used) n (launch_all framework ids budget jobs launching_next).run.next_key (launched framework ids budget jobs launching_next)) next_key (go (covers_is budget (job.resources ++ x.used) first.1)))))

@@ -14,11 +14,11 @@ use Rattle.cluster_model.specs.Sides.{Run}
 use Rattle.cluster_model.specs.Openings.{recorded_jobs, KeysOnce, NamesOnce}
 use Rattle.cluster_safe.specs.Origin.{Mark, marks_by, trail, jobs_of, From}
 use Rattle.cluster_safe.specs.Updates.{longer, states_under, recorded_states, updates_over, updates_of, states_on, sent_over, updates_on}
-use Rattle.cluster_safe.proofs.Ids.{same_is}
-use Rattle.cluster_safe.proofs.Orders.{each_append, each_map}
 use Rattle.cluster_safe.proofs.OriginWorlds.{ChannelOk, names_of, OriginOk, origin_all, from_more, tasks_from}
 use Rattle.cluster_safe.proofs.Stopped.{from_alike}
 use Rattle.cluster_safe.proofs.Sent.{under_skip, under_none}
+use Rattle.names_core.proofs.IdOrder.{same-is}
+use Rattle.names_core.proofs.Lists.{each-append, each-map}
 
 -- what stands for a key in two lists of tasks, where one has none of it
 
@@ -39,7 +39,7 @@ IsFree agent key c = c.side.name ≢ agent → Each (λ t. t.job.key ≢ key) c.
 
 all_free : (agent : List ℕ) (key : Numbered) (cs : List Channel) → Each (λ n. n ≢ agent) (names_of cs) → Each (IsFree agent key) cs → Each (λ t. t.job.key ≢ key) (tasks_in cs)
 all_free agent key [] d h = tt
-all_free agent key (c ∷ cs) d h = each_append (λ t. t.job.key ≢ key) c.agent.durable.tasks (tasks_in cs) (h.0 d.0) (all_free agent key cs d.1 h.1)
+all_free agent key (c ∷ cs) d h = each-append (λ t. t.job.key ≢ key) c.agent.durable.tasks (tasks_in cs) (h.0 d.0) (all_free agent key cs d.1 h.1)
 
 stands_on : (agent : List ℕ) (key : Numbered) (cs : List Channel) → NamesOnce (names_of cs) → Each (IsFree agent key) cs → states_under key (tasks_in cs) ≡ states_on agent key cs
 stands_on agent key [] once h = refl
@@ -57,8 +57,8 @@ from_grows rs (x ∷ hs) w marks agent j h = from_grows rs hs (after w x) (marks
 
 -- each is launched once, so the others have none of its key
 world_free : (rs : List RecordParts) (hs : List Happening) (w : World) (marks : List Mark) (agent : List ℕ) (j : Job) → OriginOk rs w marks → KeysOnce (jobs_of (trail hs w marks) ++ recorded_jobs rs) → From rs agent (trail hs w marks) j → Each (IsFree agent j.key) w.channels
-world_free rs hs w marks agent j origin once from = each_map (ChannelOk rs w.run marks) (IsFree agent j.key)
-    (λ c ok differ. each_map (λ t. From rs c.side.name marks t.job) (λ t. t.job.key ≢ j.key) (λ t f e. differ (from_alike rs (trail hs w marks) c.side.name agent t.job j once (from_grows rs hs w marks c.side.name t.job f) from (sym e))) c.agent.durable.tasks (tasks_from rs w.run marks c ok)) w.channels origin.channels
+world_free rs hs w marks agent j origin once from = each-map (ChannelOk rs w.run marks) (IsFree agent j.key)
+    (λ c ok differ. each-map (λ t. From rs c.side.name marks t.job) (λ t. t.job.key ≢ j.key) (λ t f e. differ (from_alike rs (trail hs w marks) c.side.name agent t.job j once (from_grows rs hs w marks c.side.name t.job f) from (sym e))) c.agent.durable.tasks (tasks_from rs w.run marks c ok)) w.channels origin.channels
 
 world_stands : (rs : List RecordParts) (hs : List Happening) (w : World) (marks : List Mark) (agent : List ℕ) (j : Job) → OriginOk rs w marks → KeysOnce (jobs_of (trail hs w marks) ++ recorded_jobs rs) → From rs agent (trail hs w marks) j → recorded_states j.key w ≡ states_on agent j.key w.channels
 world_stands rs hs w marks agent j origin once from = stands_on agent j.key w.channels origin.once (world_free rs hs w marks agent j origin once from)
@@ -84,7 +84,7 @@ under_owned rs agent key marks [] h = inl refl
 under_owned rs agent key marks (t ∷ ts) h = by (same t.job.key key) refl (under_owned rs agent key marks ts h.1)
   where
     by : (b : Bool) → same t.job.key key ≡ b → (states_under key ts ≡ []) ⊎ Owned rs agent key marks → ((if b then longer t.updates.states (states_under key ts) else states_under key ts) ≡ []) ⊎ Owned rs agent key marks
-    by true e rest = inr (t.job, h.0, same_is t.job.key key e)
+    by true e rest = inr (t.job, h.0, same-is t.job.key key e)
     by false e rest = rest
 
 on_owned : (rs : List RecordParts) (run : Run) (marks : List Mark) (agent : List ℕ) (key : Numbered) (cs : List Channel) → Each (ChannelOk rs run marks) cs → (states_on agent key cs ≡ []) ⊎ Owned rs agent key marks

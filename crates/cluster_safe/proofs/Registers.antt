@@ -15,11 +15,11 @@ use Rattle.cluster_model.specs.Events.{Failure}
 use Rattle.cluster_model.specs.Masters.{Framework, Master, Move, AtSide, TearDownAll, MasterEffect, nothing, refused, saying, moving, framework_of, is_torn, put_framework, with_framework, events_to_all, Placed, all_booked, held, is_of, withdraws, clear_on, without_filters_on, add_filter, side_of, has_numbers, may_have_numbers}
 use Rattle.cluster_model.specs.Calls.{frameworks_limit, to_list, subscribed, subscriber, removed, resubscribed, is_unassigned, sides_with_tasks, on_teardown, answers_held, Given, good_side, given_by, Accepting, accepts_all, passes_limits, rest_after, own_offers, accepted_as, accepted_from, on_accept, on_decline, on_revive, on_suppress, commanding, on_kill, is_last_received, on_acknowledge, on_reconcile, is_stream, on_its_stream, by_known, call_effect}
 use Rattle.cluster_model.specs.Mails.{judged, rescinds, loses, session_opens, goes_with, mailed_as, mail_effect, is_due, beaten_on, after_heartbeat, ticked, agent_lost, hung_up_by, hung_up}
-use Rattle.cluster_safe.proofs.Orders.{each_append}
 use Rattle.messages.specs.declared.call.Call.TheVariants.{Subscribe, Teardown, Accept, Decline, Revive, Suppress, Acknowledge, Reconcile}
 use Rattle.messages.specs.declared.call.Call.TheVariants as calls
 use Rattle.messages.specs.declared.mail.AgentMail.TheVariants.{Report, Applied, Update}
 use Rattle.messages.specs.declared.refusal.MasterRefusal.TheVariants.{OtherRun, OldSession, Closed, NotOpen, NotSubscribed, WrongStream, NoSuchFramework, LimitExceeded}
+use Rattle.names_core.proofs.Lists.{each-append}
 
 abbrev pub IsUpTo : ℕ → Framework → Type 0
 IsUpTo n f = f.id.run ≤ n
@@ -38,7 +38,7 @@ mapped n g k [] h = tt
 mapped n g k (f ∷ fs) h = (k f h.0, mapped n g k fs h.1)
 
 put : (n : ℕ) (f : Framework) (fs : List Framework) → IsUpTo n f → AllUpTo n fs → AllUpTo n (put_framework f fs)
-put n f fs k h = each_append (IsUpTo n) (filter (λ g. before g.id f.id) fs) (f ∷ filter (λ g. before f.id g.id) fs) (kept n (λ g. before g.id f.id) fs h) (k, kept n (λ g. before f.id g.id) fs h)
+put n f fs k h = each-append (IsUpTo n) (filter (λ g. before g.id f.id) fs) (f ∷ filter (λ g. before f.id g.id) fs) (kept n (λ g. before g.id f.id) fs h) (k, kept n (λ g. before f.id g.id) fs h)
 
 pub found_up_to : (n : ℕ) (test : Framework → Bool) (fs : List Framework) (f : Framework) → AllUpTo n fs → find test fs ≡ Some f → IsUpTo n f
 found_up_to n test [] f h e = absurd cc

@@ -22,10 +22,11 @@ use Rattle.cluster_model.specs.Agents.{Agent, Draft, has_ended, live_tasks, task
 use Rattle.cluster_model.specs.Sides.{job_rows}
 use Rattle.cluster_model.specs.Channels.{InRun}
 use Rattle.cluster_safe.specs.Facts.{TaskInFlight, Past, live, task_stake, launches, stakes, AtMost, StateOk, DownOk, Kept, HasRoom, RoomForAll}
-use Rattle.cluster_safe.proofs.Orders.{each_at}
 use Rattle.cluster_safe.proofs.Amounts.{amount-append, jobs-append}
-use Rattle.cluster_safe.proofs.Drafts.{both_true, not_false, coming_next}
+use Rattle.cluster_safe.proofs.Drafts.{coming_next}
 use Rattle.cluster_safe.proofs.Issue.{live-append}
+use Rattle.names_core.proofs.Lists.{each_at}
+use Rattle.std.proofs.lemmas.Bool.{and_parts, not-false}
 
 covers_from : (total rows : List Row) → AtMost rows total → covers total rows ≡ true
 covers_from total rows h = each rows
@@ -84,9 +85,9 @@ mail_has_room p next total a (Issued session number what) s h =
 
     full : not (a.in_session && session == a.session) ≡ false → not (number == suc a.applied) ≡ false → has_room a what ≡ false → ⊥
     full e c b =
-        let both = both_true a.in_session (eqb session a.session) (not_false (a.in_session && session == a.session) e) in
+        let both = and_parts a.in_session (eqb session a.session) (not-false (a.in_session && session == a.session) e) in
         let same : session ≡ a.session = (Decides-eqb session a.session).0 both.1 in
-        let is : number ≡ suc a.applied = (Decides-eqb number (suc a.applied)).0 (not_false (eqb number (suc a.applied)) c) in
+        let is : number ≡ suc a.applied = (Decides-eqb number (suc a.applied)).0 (not-false (eqb number (suc a.applied)) c) in
         let m : h.1.0 ≡ a.applied = omega (arith, h.1.1) in
         let at_place = subst (λ k. slice_get (p.ever a.session) k ≡ Some what) m (subst (λ s. slice_get (p.ever s) h.1.0 ≡ Some what) same h.1.2) in
         let yes : has_room a what ≡ true = room_command p next total a what s both.0 at_place in

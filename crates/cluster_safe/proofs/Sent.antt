@@ -28,15 +28,16 @@ use Rattle.cluster_model.specs.Channels.{Channel, InRun, AgentStep, Draw, DrawMa
 use Rattle.cluster_model.specs.Openings.{NamesOnce}
 use Rattle.cluster_safe.specs.Facts.{Less, UpTo, TaskInFlight, Past, task_stake, coming, stakes, Distinct, Grown, StateOk, DownOk, IsReportOf, UpOk, drafted, mails_of, states_of, Facts, Kept}
 use Rattle.cluster_safe.specs.Updates.{longer, states_under, states_on, sent_over}
-use Rattle.cluster_safe.proofs.Ids.{same_refl, same_is, less_differs}
-use Rattle.cluster_safe.proofs.Orders.{each_append, each_map, each_both, each_left}
+use Rattle.cluster_safe.proofs.Ids.{less_differs}
+use Rattle.cluster_safe.proofs.Orders.{each_left}
 use Rattle.cluster_safe.proofs.Drafts.{AllOk, all_if, starts_ok}
 use Rattle.cluster_safe.proofs.SideNames.{happens_name}
 use Rattle.cluster_safe.proofs.Worlds.{Sents, KeptIn, WorldOk, world_after}
 use Rattle.cluster_safe.specs.Origin.{Mark, marks_by}
 use Rattle.cluster_safe.proofs.OriginWorlds.{names_of, OriginOk, origin_all}
 use Rattle.cluster_safe.proofs.Counts.{longer_right, count, all_fill}
-use Rattle.cluster_safe.proofs.Commands.{get_more}
+use Rattle.names_core.proofs.IdOrder.{same-is, same_itself}
+use Rattle.names_core.proofs.Lists.{each-append, each-map, each_both, slice_get-append}
 
 -- the states under a key
 
@@ -47,7 +48,7 @@ longer_short : (xs ys : List TaskState) → length ys ≤ length xs → longer x
 longer_short xs ys le = cond_both (nat_lt (length xs) (length ys)) ys xs (λ zs. zs ≡ xs) (λ e. absurd (let lt : length xs < length ys = grind (arith, nat_tests) in omega arith)) (λ e. refl)
 
 pub under_skip : (key : Numbered) (t : RecordedTask) (ts : List RecordedTask) → key ≢ t.job.key → states_under key (t ∷ ts) ≡ states_under key ts
-under_skip key t ts differ = cond_both (same t.job.key key) (longer t.updates.states (states_under key ts)) (states_under key ts) (λ xs. xs ≡ states_under key ts) (λ e. absurd (differ (sym (same_is t.job.key key e)))) (λ e. refl)
+under_skip key t ts differ = cond_both (same t.job.key key) (longer t.updates.states (states_under key ts)) (states_under key ts) (λ xs. xs ≡ states_under key ts) (λ e. absurd (differ (sym (same-is t.job.key key e)))) (λ e. refl)
 
 pub under_none : (key : Numbered) (ts : List RecordedTask) → Each (λ t. t.job.key ≢ key) ts → states_under key ts ≡ []
 under_none key [] h = refl
@@ -55,7 +56,7 @@ under_none key (t ∷ ts) h = under_skip key t ts (λ e. h.0 (sym e)) ∙ under_
 
 under_first : (t : RecordedTask) (ts : List RecordedTask) → Each (λ u. u.job.key ≢ t.job.key) ts → states_under t.job.key (t ∷ ts) ≡ t.updates.states
 under_first t ts h = cond_both (same t.job.key t.job.key) (longer t.updates.states (states_under t.job.key ts)) (states_under t.job.key ts) (λ xs. xs ≡ t.updates.states)
-    (λ e. ap (longer t.updates.states) (under_none t.job.key ts h) ∙ longer_none t.updates.states) (λ e. absurd (let s = same_refl t.job.key in cc))
+    (λ e. ap (longer t.updates.states) (under_none t.job.key ts h) ∙ longer_none t.updates.states) (λ e. absurd (let s = same_itself t.job.key in cc))
 
 pub unmapped : (P : TaskInFlight → Type 0) (ts : List RecordedTask) → Each P (map task_stake ts) → Each (λ t. P (task_stake t)) ts
 unmapped P [] h = tt
@@ -117,9 +118,9 @@ facts_renewed p l new f grown unsent = record {
   when_open = λ e. let o = f.when_open e in record { session = o.session; told = o.told; issued = o.issued; known = o.known; torn = o.torn; covered = o.covered };
   when_shut = λ e. let o = f.when_shut e in record { offers = o.offers; booked = o.booked; closed = o.closed };
   states = each_both (StateOk p l.next_key l.total) (λ a. Each (Grown new) (stakes p a)) (StateOk (renewed p new) l.next_key l.total) (λ a s g. record { owns = s.owns; told = s.told; peak = s.peak; applied = s.applied; distinct = s.distinct; order = s.order; below = s.below; room = s.room; ends = s.ends; grown = g }) (states_of l) f.states grown;
-  downs = each_map (DownOk p) (DownOk (renewed p new)) down l.to_agent f.downs;
-  ups = each_map (UpOk p l.next_key (states_of l)) (UpOk (renewed p new) l.next_key (states_of l)) (up (states_of l)) l.to_master f.ups;
-  pending = each_map (UpOk p l.next_key (drafted l.draft)) (UpOk (renewed p new) l.next_key (drafted l.draft)) (up (drafted l.draft)) (mails_of l.draft) f.pending;
+  downs = each-map (DownOk p) (DownOk (renewed p new)) down l.to_agent f.downs;
+  ups = each-map (UpOk p l.next_key (states_of l)) (UpOk (renewed p new) l.next_key (states_of l)) (up (states_of l)) l.to_master f.ups;
+  pending = each-map (UpOk p l.next_key (drafted l.draft)) (UpOk (renewed p new) l.next_key (drafted l.draft)) (up (drafted l.draft)) (mails_of l.draft) f.pending;
 }
   where
     down : (m : MasterMail) → DownOk p m → DownOk (renewed p new) m
@@ -127,7 +128,7 @@ facts_renewed p l new f grown unsent = record {
     down (Issued session number what) h = h
 
     up : (ags : List Agent) (m : AgentMail) → UpOk p l.next_key ags m → UpOk (renewed p new) l.next_key ags m
-    up ags (Report session run tasks total) h = (h.0, h.1, each_map (IsReportOf p session tasks total) (IsReportOf (renewed p new) session tasks total) (λ a k. record { reached = k.reached; owns = k.owns; same = k.same; covered = k.covered }) ags h.2)
+    up ags (Report session run tasks total) h = (h.0, h.1, each-map (IsReportOf p session tasks total) (IsReportOf (renewed p new) session tasks total) (λ a k. record { reached = k.reached; owns = k.owns; same = k.same; covered = k.covered }) ags h.2)
     up ags (Applied session count) h = h
     up ags (Update session key k state ended) h = h
 
@@ -150,12 +151,12 @@ kept_renewed old new l k r at = (renewed k.0 new, facts_renewed k.0 l new k.1 (o
     drafts : (o : Option Draft) → l.draft ≡ o → IsRenewable old l.channel → Each (λ a. Each (Grown new) (stakes k.0 a)) (drafted o)
     drafts None e h = tt
     drafts (Some d) e (inl none) = absurd (let n : Some d ≡ None = sym e ∙ none in cc)
-    drafts (Some d) e (inr le) = (each_map (Grown old) (Grown new) (λ x g. grown_settled old new l.agent.durable.tasks r le x g) (stakes k.0 d.after) (from d.after (subst (λ o. Each (StateOk k.0 l.next_key l.total) (drafted o)) e k.1.states.1).0), tt)
+    drafts (Some d) e (inr le) = (each-map (Grown old) (Grown new) (λ x g. grown_settled old new l.agent.durable.tasks r le x g) (stakes k.0 d.after) (from d.after (subst (λ o. Each (StateOk k.0 l.next_key l.total) (drafted o)) e k.1.states.1).0), tt)
 
     unsent : (key : Numbered) → UpTo l.next_key key → new key ≡ []
     unsent key le =
         r key ∙ (ap (λ xs. longer xs (states_under key l.agent.durable.tasks)) (ap (λ u. u key) (sym k.3) ∙ k.1.unsent key le) ∙ ap (longer []) (under_none key l.agent.durable.tasks
-        (unmapped (λ x. x.job.key ≢ key) l.agent.durable.tasks (each_map (λ x. Less x.job.key l.next_key) (λ x. x.job.key ≢ key) (λ x lt e. less_differs x.job.key l.next_key key lt le (sym e)) (map task_stake l.agent.durable.tasks) (each_left (λ x. Less x.job.key l.next_key) (map task_stake l.agent.durable.tasks) (coming k.0 l.agent) s.below)))))
+        (unmapped (λ x. x.job.key ≢ key) l.agent.durable.tasks (each-map (λ x. Less x.job.key l.next_key) (λ x. x.job.key ≢ key) (λ x lt e. less_differs x.job.key l.next_key key lt le (sym e)) (map task_stake l.agent.durable.tasks) (each_left (λ x. Less x.job.key l.next_key) (map task_stake l.agent.durable.tasks) (coming k.0 l.agent) s.below)))))
 
 -- then the record has just these
 
@@ -187,7 +188,7 @@ begins_longer old key ts h = cond_both (nat_lt (length (old key)) (length (state
       where
         one : (states_under key us ≡ []) ⊎ Begins (old key) (states_under key us) → (states_under key (u ∷ us) ≡ []) ⊎ Begins (old key) (states_under key (u ∷ us))
         one rest = cond_both (same u.job.key key) (longer u.updates.states (states_under key us)) (states_under key us) (λ xs. (xs ≡ []) ⊎ Begins (old key) xs)
-            (λ e. cond_both (nat_lt (length u.updates.states) (length (states_under key us))) (states_under key us) u.updates.states (λ xs. (xs ≡ []) ⊎ Begins (old key) xs) (λ d. rest) (λ d. inr (subst (λ i. Begins (old i) u.updates.states) (same_is u.job.key key e) k.0))) (λ e. rest)
+            (λ e. cond_both (nat_lt (length u.updates.states) (length (states_under key us))) (states_under key us) u.updates.states (λ xs. (xs ≡ []) ⊎ Begins (old key) xs) (λ d. rest) (λ d. inr (subst (λ i. Begins (old i) u.updates.states) (same-is u.job.key key e) k.0))) (λ e. rest)
 
     by : nat_lt (length (old key)) (length (states_under key ts)) ≡ true → (states_under key ts ≡ []) ⊎ Begins (old key) (states_under key ts) → Begins (old key) (states_under key ts)
     by e (inl n) = absurd (let lt : length (old key) < length (states_under key ts) = grind (arith, nat_tests) in let z : length (states_under key ts) ≡ 0 = ap length n in omega (arith, lt, z))
@@ -222,7 +223,7 @@ mail_exact new ts e (Applied session number) h = tt
 mail_exact new ts e (Update session key k state ended) h = in_exact new ts e key k state h
 
 pub get_begins : (xs ys : List TaskState) (k : ℕ) (s : TaskState) → Begins xs ys → slice_get xs k ≡ Some s → slice_get ys k ≡ Some s
-get_begins xs ys k s b h = subst (λ zs. slice_get zs k ≡ Some s) (sym b.1) (get_more xs b.0 k s h)
+get_begins xs ys k s b h = subst (λ zs. slice_get zs k ≡ Some s) (sym b.1) (slice_get-append xs b.0 k s h)
 
 mail_begins : (old new : Numbered → List TaskState) → ((key : Numbered) → Begins (old key) (new key)) → (m : AgentMail) → MailAt old m → MailAt new m
 mail_begins old new b (Report session run tasks total) h = tt
@@ -247,7 +248,7 @@ first_held all t ts f key k state (inr h) = absurd h
 
 flat_in : (all : List RecordedTask) (session : ℕ) (ts : List RecordedTask) → Holds ts all → Each (MailIn all) (flat_map (front_of session) ts)
 flat_in all session [] f = tt
-flat_in all session (t ∷ ts) f = each_append (MailIn all) (front_of session t) (flat_map (front_of session) ts) (front_in all session t (first_held all t ts f)) (flat_in all session ts (λ key k state h. f key k state (inr h)))
+flat_in all session (t ∷ ts) f = each-append (MailIn all) (front_of session t) (flat_map (front_of session) ts) (front_in all session t (first_held all t ts f)) (flat_in all session ts (λ key k state h. f key k state (inr h)))
 
 filter_held : (keep : RecordedTask → Bool) (ts : List RecordedTask) → Holds (filter keep ts) ts
 filter_held keep [] key k state h = h
@@ -330,7 +331,7 @@ pub record MailsOk (u : Numbered → List TaskState) (c : Channel) : Type 0 wher
   pub pending : PendingIn c.draft
 
 mails_begin : (old new : Numbered → List TaskState) → ((key : Numbered) → Begins (old key) (new key)) → (c : Channel) → MailsOk old c → MailsOk new c
-mails_begin old new b c h = record { ups = each_map (MailAt old) (MailAt new) (mail_begins old new b) c.to_master h.ups; pending = h.pending }
+mails_begin old new b c h = record { ups = each-map (MailAt old) (MailAt new) (mail_begins old new b) c.to_master h.ups; pending = h.pending }
 
 drawn_mails : (u : Numbered → List TaskState) (c : Channel) (o : Option Draft) (r : Result Draft AgentRefusal) → AllOk DraftIn r → MailsOk u c → MailsOk u (drawn c o r)
 drawn_mails u c (Some old) r x h = h
@@ -350,7 +351,7 @@ draw_mail_mails u c (Some m) h = drawn_mails u c c.draft (receives_mail c.agent 
 
 adopt_mails : (u : Numbered → List TaskState) (c : Channel) (o : Option Draft) → c.draft ≡ o → Each (IsExact u) (adopted c o).agent.durable.tasks → MailsOk u c → MailsOk u (adopted c o)
 adopt_mails u c None e x h = h
-adopt_mails u c (Some d) e x h = record { ups = each_append (MailAt u) c.to_master d.mails h.ups (each_map (MailIn d.after.durable.tasks) (MailAt u) (mail_exact u d.after.durable.tasks x) d.mails (subst PendingIn e h.pending)); pending = tt }
+adopt_mails u c (Some d) e x h = record { ups = each-append (MailAt u) c.to_master d.mails h.ups (each-map (MailIn d.after.durable.tasks) (MailAt u) (mail_exact u d.after.durable.tasks x) d.mails (subst PendingIn e h.pending)); pending = tt }
 
 stop_mails : (u : Numbered → List TaskState) (c : Channel) (o : Option Draft) → MailsOk u c → MailsOk u (stopped_with c o)
 stop_mails u c None h = h
@@ -432,7 +433,7 @@ at_renewable : (v : Sents) (agent : List ℕ) (step : ChannelStep) (run : Run) (
 at_renewable v agent step run [] h = tt
 at_renewable v agent step run (c ∷ cs) h =
     let rest = at_renewable v agent step run cs h.1 in
-    cond_both (bytes_eq c.side.name agent) (in_front (happens run c step) cs) (behind c (at_agent agent step run cs)) (λ w. Each (RenewableIn v) w.channels) (λ e. (renewable_step v run c step h.0, each_map (SettledIn v) (RenewableIn v) (λ d k. inr k) cs h.1)) (λ e. (inr h.0, rest))
+    cond_both (bytes_eq c.side.name agent) (in_front (happens run c step) cs) (behind c (at_agent agent step run cs)) (λ w. Each (RenewableIn v) w.channels) (λ e. (renewable_step v run c step h.0, each-map (SettledIn v) (RenewableIn v) (λ d k. inr k) cs h.1)) (λ e. (inr h.0, rest))
 
 sides_renewable : (v : Sents) (closed : Side → ℕ) (cs : List Channel) → Each (SettledIn v) cs → Each (RenewableIn v) (map (with_side (λ s. shut s (closed s))) cs)
 sides_renewable v closed [] h = tt
@@ -440,7 +441,7 @@ sides_renewable v closed (c ∷ cs) h = (inr h.0, sides_renewable v closed cs h.
 
 after_renewable : (v : Sents) (w : World) (h : Happening) → Each (SettledIn v) w.channels → Each (RenewableIn v) (after w h).channels
 after_renewable v w (At agent step) k = at_renewable v agent step w.run w.channels k
-after_renewable v w (TearDown framework) k = each_map (SettledIn v) (RenewableIn v) (λ c x. inr x) w.channels k
+after_renewable v w (TearDown framework) k = each-map (SettledIn v) (RenewableIn v) (λ c x. inr x) w.channels k
 after_renewable v w Restart k = sides_renewable v (λ s. 0) w.channels k
 after_renewable v w Halt k = sides_renewable v last_session w.channels k
 
@@ -505,7 +506,7 @@ abbrev pub RenewsIn : Sents → Sents → Channel → Type 0
 RenewsIn old new c = Renews (old c.side.name) (new c.side.name) c.agent.durable.tasks
 
 all_renew : (v : Sents) (w : World) → NamesOnce (names_of w.channels) → Each (RenewsIn v (next v w)) w.channels
-all_renew v w once = each_map (IsOwn w.channels) (RenewsIn v (next v w)) (λ c own key. ap (longer (v c.side.name key)) (own key)) w.channels (own_states w.channels once)
+all_renew v w once = each-map (IsOwn w.channels) (RenewsIn v (next v w)) (λ c own key. ap (longer (v c.side.name key)) (own key)) w.channels (own_states w.channels once)
 
 renewed_world : (old new : Sents) (w : World) → WorldOk old w → Each (RenewsIn old new) w.channels → Each (RenewableIn old) w.channels → WorldOk new w
 renewed_world old new w ok r at = record {
@@ -525,7 +526,7 @@ channel_ready old new run c k l r = (
 sent_renewed : (old new : Sents) (w : World) → WorldOk old w → Each (RenewsIn old new) w.channels → Each (RenewableIn old) w.channels → (Each (IsReady old new) w.channels → Each (MailsIn new) w.channels) → SentOk new w
 sent_renewed old new w ok r at f = record {
   world = world;
-  settled = each_map (RenewsIn old new) (SettledIn new) (λ c x. settled (old c.side.name) (new c.side.name) c.agent.durable.tasks x) w.channels r;
+  settled = each-map (RenewsIn old new) (SettledIn new) (λ c x. settled (old c.side.name) (new c.side.name) c.agent.durable.tasks x) w.channels r;
   mails = f (each_both (KeptIn old w.run) (λ c. KeptIn new w.run c × RenewsIn old new c) (IsReady old new) (λ c k x. channel_ready old new w.run c k x.0 x.1) w.channels ok.kept
       (each_both (KeptIn new w.run) (RenewsIn old new) (λ c. KeptIn new w.run c × RenewsIn old new c) (λ c x y. (x, y)) w.channels world.kept r));
 }
@@ -560,7 +561,7 @@ tasks_begin : (v : Sents) (run : Run) (c : Channel) → KeptIn v run c → Each 
 tasks_begin v run c k = unmapped (Grown (v c.side.name)) c.agent.durable.tasks (each_left (Grown (v c.side.name)) (map task_stake c.agent.durable.tasks) (coming k.0 c.agent) (subst (λ u. Each (Grown u) (stakes k.0 c.agent)) k.3 k.1.states.0.grown))
 
 next_begin : (v : Sents) (w : World) → WorldOk v w → (name : List ℕ) (key : Numbered) → Begins (v name key) (next v w name key)
-next_begin v w ok name key = begins_on v name key w.channels (each_map (KeptIn v w.run) (λ c. Each (λ t. Begins (v c.side.name t.job.key) t.updates.states) c.agent.durable.tasks) (tasks_begin v w.run) w.channels ok.kept)
+next_begin v w ok name key = begins_on v name key w.channels (each-map (KeptIn v w.run) (λ c. Each (λ t. Begins (v c.side.name t.job.key) t.updates.states) c.agent.durable.tasks) (tasks_begin v w.run) w.channels ok.kept)
 
 pub all_begin : (rs : List RecordParts) (hs : List Happening) (w : World) (marks : List Mark) (v : Sents) → OriginOk rs w marks → SentOk v w → (name : List ℕ) (key : Numbered) → Begins (v name key) (all_over v hs w name key)
 all_begin rs [] w marks v origin ok name key = begins_refl (v name key)
@@ -575,8 +576,8 @@ sent_append name key (h ∷ hs) more w before = sent_append name key hs more (af
 -- the same updates
 pub sent_alike : (old new : Sents) (w : World) → ((name : List ℕ) (key : Numbered) → new name key ≡ old name key) → SentOk old w → SentOk new w
 sent_alike old new w e ok = sent_renewed old new w ok.world
-    (each_map (SettledIn old) (RenewsIn old new) (λ c le key. e c.side.name key ∙ sym (longer_short (old c.side.name key) (states_under key c.agent.durable.tasks) (le key))) w.channels ok.settled)
-    (each_map (SettledIn old) (RenewableIn old) (λ c le. inr le) w.channels ok.settled)
+    (each-map (SettledIn old) (RenewsIn old new) (λ c le key. e c.side.name key ∙ sym (longer_short (old c.side.name key) (states_under key c.agent.durable.tasks) (le key))) w.channels ok.settled)
+    (each-map (SettledIn old) (RenewableIn old) (λ c le. inr le) w.channels ok.settled)
     (λ r. each_both (IsReady old new) (MailsIn old) (MailsIn new) (mails_ready old new) w.channels r ok.mails)
 
 -- each record has just these
@@ -600,5 +601,5 @@ opened_renewable v (d ∷ ds) = (inl refl, opened_renewable v ds)
 
 pub opened_sent : (rs : List RecordParts) (run : ℕ) → OriginOk rs (open_world run rs) [] → WorldOk (λ name key. []) (open_world run rs) → SentOk (λ name key. states_on name key (open_world run rs).channels) (open_world run rs)
 opened_sent rs run origin ok = sent_renewed (λ name key. []) (λ name key. states_on name key (open_world run rs).channels) (open_world run rs) ok
-    (each_map (IsOwn (open_world run rs).channels) (RenewsIn (λ name key. []) (λ name key. states_on name key (open_world run rs).channels)) (λ c own key. own key ∙ sym (longer_all (states_under key c.agent.durable.tasks))) (open_world run rs).channels (own_states (open_world run rs).channels origin.once))
+    (each-map (IsOwn (open_world run rs).channels) (RenewsIn (λ name key. []) (λ name key. states_on name key (open_world run rs).channels)) (λ c own key. own key ∙ sym (longer_all (states_under key c.agent.durable.tasks))) (open_world run rs).channels (own_states (open_world run rs).channels origin.once))
     (opened_renewable (λ name key. []) rs) (λ r. opened_mails (λ name key. states_on name key (open_world run rs).channels) rs)

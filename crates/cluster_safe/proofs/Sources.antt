@@ -23,13 +23,13 @@ use Rattle.cluster_model.specs.Calls.{frameworks_limit, to_list, subscribed, rem
 use Rattle.cluster_model.specs.Mails.{judged, rescinds, loses, is_to_end, session_opens, goes_with, mailed_as, mail_effect, ticks, ticked, agent_lost, hung_up_by, hung_up}
 use Rattle.cluster_model.specs.Rounds.{round, allocated}
 use Rattle.cluster_safe.specs.Listed.{IsListed, MoveFrom, StepWithout, MoveWithout}
-use Rattle.cluster_safe.proofs.Ids.{same_is}
-use Rattle.cluster_safe.proofs.Orders.{each_append}
-use Rattle.cluster_safe.proofs.Drafts.{both_true}
 use Rattle.messages.specs.declared.mail.AgentMail.TheVariants.{Report, Applied, Update}
 use Rattle.messages.specs.declared.call.Call.TheVariants.{Subscribe, Teardown, Accept, Decline, Revive, Suppress, Acknowledge, Reconcile}
 use Rattle.messages.specs.declared.call.Call.TheVariants as calls
 use Rattle.messages.specs.declared.refusal.MasterRefusal.TheVariants.{OtherRun, OldSession, Closed, NotOpen, NotSubscribed, WrongStream, NoSuchFramework, LimitExceeded}
+use Rattle.names_core.proofs.IdOrder.{same-is}
+use Rattle.names_core.proofs.Lists.{each-append}
+use Rattle.std.proofs.lemmas.Bool.{and_parts}
 
 mapped_from : {X : Type 0} (q : Call) (f : X → Move) → ((x : X) → MoveFrom q (f x)) → (xs : List X) → Each (MoveFrom q) (map f xs)
 mapped_from q f g [] = tt
@@ -59,7 +59,7 @@ if_from q false x y h k = k
 
 teardown_from : (q : Call) (m : Master) (f : Framework) → Each (MoveFrom q) (on_teardown m f).moves
 teardown_from q m f = cond_both (list_any (λ s. not (has_numbers 1 s)) (sides_with_tasks m f.id)) (refused m LimitExceeded) torn (λ d. Each (MoveFrom q) d.moves) (λ e. tt)
-    (λ e. each_append (MoveFrom q) (withdraws (is_of f.id) m) (TearDownAll f.id ∷ map (λ s. AtSide s.name (SendEnd f.id)) (sides_with_tasks m f.id)) (withdraws_from q (is_of f.id) m) (tt, mapped_from q (λ (s : Side). AtSide s.name (SendEnd f.id)) (λ s. tt) (sides_with_tasks m f.id)))
+    (λ e. each-append (MoveFrom q) (withdraws (is_of f.id) m) (TearDownAll f.id ∷ map (λ s. AtSide s.name (SendEnd f.id)) (sides_with_tasks m f.id)) (withdraws_from q (is_of f.id) m) (tt, mapped_from q (λ (s : Side). AtSide s.name (SendEnd f.id)) (λ s. tt) (sides_with_tasks m f.id)))
   where
     torn : MasterEffect
     torn = record { refusal = None; moves = withdraws (is_of f.id) m ++ TearDownAll f.id ∷ map (λ s. AtSide s.name (SendEnd f.id)) (sides_with_tasks m f.id); events = []; opens = []; closes = to_list f.stream; registers = with_framework m.registers (record f { stream = None }) }
@@ -71,14 +71,14 @@ find_is id [] f e = absurd cc
 find_is id (g ∷ fs) f e = by (same g.id id) refl e (find_is id fs f)
   where
     by : (t : Bool) → same g.id id ≡ t → find (λ (g : Framework). same g.id id) (g ∷ fs) ≡ Some f → (find (λ (g : Framework). same g.id id) fs ≡ Some f → id ≡ f.id) → id ≡ f.id
-    by true d k rest = (let found_it : Some g ≡ Some f = rw d at k in let is : g ≡ f = cc in subst (λ (x : Framework). id ≡ x.id) is (sym (same_is g.id id d)))
+    by true d k rest = (let found_it : Some g ≡ Some f = rw d at k in let is : g ≡ f = cc in subst (λ (x : Framework). id ≡ x.id) is (sym (same-is g.id id d)))
     by false d k rest = rest (rw d at k)
 
 one_listed : (f : Framework) (g : Given) (all : List TaskInfo) (t : TaskInfo) (x : Accepting) (o : Option Placed) → ((j : Job) → (t.name ≡ j.name) × (t.agent ≡ g.agent) × (t.resources ≡ j.resources) → IsListed g.agent all j) → Each (IsListed g.agent all) x.jobs → Each (IsListed g.agent all) (accepts_as f (Some g) x t o).jobs
 one_listed f g all t x (Some p) k h = h
 one_listed f g all t x None k h = cond_both (is_covered g x.used t) (launching f g x t) (answering x (answers f t.name Error (Some t.agent))) (λ y. Each (IsListed g.agent all) y.jobs)
-    (λ e. each_append (IsListed g.agent all) x.jobs (job_of f x.next t ∷ []) h
-    (k (job_of f x.next t) (refl, (bytes_decides t.agent g.agent).0 (both_true (bytes_eq t.agent g.agent) (not (is_empty t.resources)) (both_true (bytes_eq t.agent g.agent && not (is_empty t.resources)) (covers g.budget (t.resources ++ x.used)) e).0).0, refl), tt))
+    (λ e. each-append (IsListed g.agent all) x.jobs (job_of f x.next t ∷ []) h
+    (k (job_of f x.next t) (refl, (bytes_decides t.agent g.agent).0 (and_parts (bytes_eq t.agent g.agent) (not (is_empty t.resources)) (and_parts (bytes_eq t.agent g.agent && not (is_empty t.resources)) (covers g.budget (t.resources ++ x.used)) e).0).0, refl), tt))
     (λ e. h)
 
 all_listed : (f : Framework) (g : Given) (all tasks : List TaskInfo) (x : Accepting) → ((j : Job) → IsListed g.agent tasks j → IsListed g.agent all j) → Each (IsListed g.agent all) x.jobs → Each (IsListed g.agent all) (fold (accepts_one f (Some g)) x tasks).jobs

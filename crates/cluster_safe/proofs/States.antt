@@ -14,9 +14,10 @@ use Rattle.cluster_model.specs.Agents.{Agent, Draft, has_ended, state_at, report
 use Rattle.cluster_model.specs.Sides.{unended, job_rows}
 use Rattle.cluster_model.specs.Channels.{InRun}
 use Rattle.cluster_safe.specs.Facts.{Less, TaskInFlight, Past, Within, Fades, live, task_stake, launches, coming, stakes, Distinct, EndsKept, AtMost, EndedAt, Grown, StateOk, IsReportOf, UpOk, drafted, mails_of, states_of, PastOk, Facts}
-use Rattle.cluster_safe.proofs.Orders.{each_append, each_map, each_both, each_left, within_refl, within_trans, fades_refl, fades_append, each_faded, grown_aged, distinct_faded, order_faded, live_faded}
+use Rattle.cluster_safe.proofs.Orders.{each_left, within_refl, within_trans, fades_refl, fades_append, each_faded, grown_aged, distinct_faded, order_faded, live_faded}
 use Rattle.cluster_safe.proofs.Amounts.{within_at_most}
 use Rattle.cluster_safe.proofs.Commands.{ends_faded}
+use Rattle.names_core.proofs.Lists.{each-append, each-filter, each-map, each_both}
 
 -- a later state of an agent, which launches nothing that the earlier couldn't
 pub record Follows (p : Past) (new old : Agent) : Type 0 where
@@ -62,7 +63,7 @@ facts_replaced p l a d sent f r ok new pend = record {
   when_shut = λ e. let o = f.when_shut e in record { offers = o.offers; booked = o.booked; closed = o.closed };
   states = ok;
   downs = f.downs;
-  ups = each_append (UpOk p l.next_key (a ∷ drafted d)) l.to_master sent (each_map (UpOk p l.next_key (states_of l)) (UpOk p l.next_key (a ∷ drafted d)) (up_replaced p l.next_key (states_of l) (a ∷ drafted d) r) l.to_master f.ups) new;
+  ups = each-append (UpOk p l.next_key (a ∷ drafted d)) l.to_master sent (each-map (UpOk p l.next_key (states_of l)) (UpOk p l.next_key (a ∷ drafted d)) (up_replaced p l.next_key (states_of l) (a ∷ drafted d) r) l.to_master f.ups) new;
   pending = pend;
 }
 
@@ -133,7 +134,7 @@ report_ok p next total a past s = (
 marks : (ts : List RecordedTask) (rest : List TaskInFlight) → Distinct (map task_stake ts ++ rest) → Each (λ t. has_ended t ≡ true → EndedAt t.job.key (map task_stake ts ++ rest)) ts
 marks [] rest d = tt
 marks (t ∷ ts) rest d = (
-  λ e. ((λ same. e), each_map (λ s. s.job.key ≢ t.job.key) (λ s. s.job.key ≡ t.job.key → s.ended ≡ true) (λ s differ same. absurd (differ same)) (map task_stake ts ++ rest) d.0),
+  λ e. ((λ same. e), each-map (λ s. s.job.key ≢ t.job.key) (λ s. s.job.key ≡ t.job.key → s.ended ≡ true) (λ s differ same. absurd (differ same)) (map task_stake ts ++ rest) d.0),
   each_both (λ u. u.job.key ≢ t.job.key) (λ u. has_ended u ≡ true → EndedAt u.job.key (map task_stake ts ++ rest)) (λ u. has_ended u ≡ true → EndedAt u.job.key (map task_stake (t ∷ ts) ++ rest))
       (λ u differ h e. ((λ same. absurd (differ (sym same))), h e)) ts (unmapped ts (each_left (λ s. s.job.key ≢ t.job.key) (map task_stake ts) rest d.0)) (marks ts rest d.1),
 )
@@ -160,17 +161,13 @@ front_ok p next a session t h =
 
 each_flat : (p : Past) (next : Numbered) (a : Agent) (session : ℕ) (ts : List RecordedTask) → Each (TaskOk p next a) ts → Each (UpOk p next (a ∷ [])) (flat_map (front_of session) ts)
 each_flat p next a session [] h = tt
-each_flat p next a session (t ∷ ts) h = each_append (UpOk p next (a ∷ [])) (front_of session t) (flat_map (front_of session) ts) (front_ok p next a session t h.0) (each_flat p next a session ts h.1)
-
-each_filter : {A : Type 0} (P : A → Type 0) (keep : A → Bool) (xs : List A) → Each P xs → Each P (filter keep xs)
-each_filter P keep [] h = tt
-each_filter P keep (x ∷ xs) h = cond_both (keep x) (x ∷ filter keep xs) (filter keep xs) (Each P) (λ e. (h.0, each_filter P keep xs h.1)) (λ e. each_filter P keep xs h.1)
+each_flat p next a session (t ∷ ts) h = each-append (UpOk p next (a ∷ [])) (front_of session t) (flat_map (front_of session) ts) (front_ok p next a session t h.0) (each_flat p next a session ts h.1)
 
 pub fronts_ok : (p : Past) (next : Numbered) (total : List Row) (a : Agent) → StateOk p next total a → Each (UpOk p next (a ∷ [])) (fronts a)
 fronts_ok p next total a s = cond_both a.in_session (flat_map (front_of a.session) a.tasks) [] (Each (UpOk p next (a ∷ []))) (λ e. each_flat p next a a.session a.tasks (tasks_ok p next total a s)) (λ e. tt)
 
 pub front_at_ok : (p : Past) (next : Numbered) (total : List Row) (a : Agent) (key : Numbered) → StateOk p next total a → Each (UpOk p next (a ∷ [])) (front_at key a)
-front_at_ok p next total a key s = each_flat p next a a.session (filter (λ t. same t.job.key key) a.tasks) (each_filter (TaskOk p next a) (λ t. same t.job.key key) a.tasks (tasks_ok p next total a s))
+front_at_ok p next total a key s = each_flat p next a a.session (filter (λ t. same t.job.key key) a.tasks) (each-filter (TaskOk p next a) (λ t. same t.job.key key) a.tasks (tasks_ok p next total a s))
 
 pub applied_ok : (p : Past) (next : Numbered) (total : List Row) (a : Agent) → a.session ≤ p.peak → a.in_session ≡ true → StateOk p next total a → UpOk p next (a ∷ []) (Applied a.session a.applied)
 applied_ok p next total a le up s = (le, s.applied up, λ same. (s.ends up, tt))

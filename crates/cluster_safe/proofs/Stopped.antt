@@ -17,27 +17,21 @@ use Rattle.cluster_model.specs.Openings.{RecordFits, recorded_jobs, recorded_off
 use Rattle.cluster_safe.specs.Facts.{Less, TaskInFlight, Past, live, task_stake, coming, stakes, Distinct, StateOk, drafted, PastOk, Kept}
 use Rattle.cluster_safe.specs.Saved.{IsDraftOf, IsFound}
 use Rattle.cluster_safe.specs.Origin.{Use, Mark, Made, Used, IsOneOf, jobs_of, jobs_on, recorded_on, From}
-use Rattle.cluster_safe.proofs.Orders.{each_append, each_map, each_right, each_left}
+use Rattle.cluster_safe.proofs.Orders.{each_right, each_left}
 use Rattle.cluster_safe.proofs.Amounts.{within_at_most, tasks_weigh}
 use Rattle.cluster_safe.proofs.States.{live_left}
 use Rattle.cluster_safe.proofs.Worlds.{Sents, KeptIn, WorldOk}
 use Rattle.cluster_safe.proofs.Told.{drafts_of, TaskTold, AgentTold, past}
 use Rattle.cluster_safe.proofs.Origins.{Any, in_behind, in_front_of}
 use Rattle.cluster_safe.proofs.OriginWorlds.{ChannelOk, names_of, OriginOk}
-use Rattle.cluster_safe.proofs.Openings.{once_left, once_right}
+use Rattle.cluster_safe.proofs.Openings.{once_left}
 use Rattle.cluster_safe.proofs.Names.{NamedAs, AllNamed}
 use Rattle.cluster_safe.proofs.Launches.{TaskFrom, AgentFrom, ChannelFrom, AllFrom}
+use Rattle.cluster_model.proofs.Chains.{keys_right}
+use Rattle.cluster_safe.proofs.Shared.{one_split}
+use Rattle.names_core.proofs.Lists.{each-append, each-map}
 
 -- jobs with one key are one job, on one agent
-
-one_split : (js is : List Job) (j : Job) → IsOneOf j (js ++ is) → IsOneOf j js ⊎ IsOneOf j is
-one_split [] is j h = inr h
-one_split (i ∷ js) is j (inl e) = inl (inl e)
-one_split (i ∷ js) is j (inr h) = turn (one_split js is j h)
-  where
-    turn : IsOneOf j js ⊎ IsOneOf j is → IsOneOf j (i ∷ js) ⊎ IsOneOf j is
-    turn (inl k) = inl (inr k)
-    turn (inr k) = inr k
 
 pub apart_one : (key : Numbered) (js : List Job) (j : Job) → Each (λ i. i.key ≢ key) js → IsOneOf j js → j.key ≢ key
 apart_one key [] j h k = absurd k
@@ -65,7 +59,7 @@ on_of agent (Used u ∷ older) j h = by (on_split agent u older j h) (λ k. on_o
 marks_alike : (marks : List Mark) (a b : List ℕ) (i j : Job) → KeysOnce (jobs_of marks) → IsOneOf i (jobs_on a marks) → IsOneOf j (jobs_on b marks) → j.key ≡ i.key → a ≡ b
 marks_alike [] a b i j once h k e = absurd h
 marks_alike (Made m ∷ older) a b i j once h k e = marks_alike older a b i j once h k e
-marks_alike (Used u ∷ older) a b i j once h k e = by (on_split a u older i h) (on_split b u older j k) (λ f g. marks_alike older a b i j (once_right u.jobs (jobs_of older) once) f g e)
+marks_alike (Used u ∷ older) a b i j once h k e = by (on_split a u older i h) (on_split b u older j k) (λ f g. marks_alike older a b i j (keys_right u.jobs (jobs_of older) once) f g e)
   where
     by : ((u.agent ≡ a) × IsOneOf i u.jobs) ⊎ IsOneOf i (jobs_on a older) → ((u.agent ≡ b) × IsOneOf j u.jobs) ⊎ IsOneOf j (jobs_on b older) → (IsOneOf i (jobs_on a older) → IsOneOf j (jobs_on b older) → a ≡ b) → a ≡ b
     by (inl f) (inl g) rest = sym f.0 ∙ g.0
@@ -87,7 +81,7 @@ rec_of agent (d ∷ ds) j h = by (rec_split agent d ds j h) (λ k. rec_of agent 
 
 recs_alike : (ds : List RecordParts) (a b : List ℕ) (i j : Job) → KeysOnce (recorded_jobs ds) → IsOneOf i (recorded_on a ds) → IsOneOf j (recorded_on b ds) → j.key ≡ i.key → a ≡ b
 recs_alike [] a b i j once h k e = absurd h
-recs_alike (d ∷ ds) a b i j once h k e = by (rec_split a d ds i h) (rec_split b d ds j k) (λ f g. recs_alike ds a b i j (once_right (map (λ t. t.job) d.tasks) (recorded_jobs ds) once) f g e)
+recs_alike (d ∷ ds) a b i j once h k e = by (rec_split a d ds i h) (rec_split b d ds j k) (λ f g. recs_alike ds a b i j (keys_right (map (λ t. t.job) d.tasks) (recorded_jobs ds) once) f g e)
   where
     by : ((d.name ≡ a) × IsOneOf i (map (λ t. t.job) d.tasks)) ⊎ IsOneOf i (recorded_on a ds) → ((d.name ≡ b) × IsOneOf j (map (λ t. t.job) d.tasks)) ⊎ IsOneOf j (recorded_on b ds) → (IsOneOf i (recorded_on a ds) → IsOneOf j (recorded_on b ds) → a ≡ b) → a ≡ b
     by (inl f) (inl g) rest = sym f.0 ∙ g.0
@@ -104,7 +98,7 @@ pub from_alike : (rs : List RecordParts) (marks : List Mark) (a b : List ℕ) (i
 from_alike rs marks a b i j once (inl h) (inl k) e = marks_alike marks a b i j (once_left (jobs_of marks) (recorded_jobs rs) once) h k e
 from_alike rs marks a b i j once (inl h) (inr k) e = absurd (once_apart (jobs_of marks) (recorded_jobs rs) i j once (on_of a marks i h) (rec_of b rs j k) e)
 from_alike rs marks a b i j once (inr h) (inl k) e = absurd (once_apart (jobs_of marks) (recorded_jobs rs) j i once (on_of b marks j k) (rec_of a rs i h) (sym e))
-from_alike rs marks a b i j once (inr h) (inr k) e = recs_alike rs a b i j (once_right (jobs_of marks) (recorded_jobs rs) once) h k e
+from_alike rs marks a b i j once (inr h) (inr k) e = recs_alike rs a b i j (keys_right (jobs_of marks) (recorded_jobs rs) once) h k e
 
 -- one found record
 
@@ -127,7 +121,7 @@ state_found rs marks p l a past latest s t r = record {
   older = omega (arith, s.told, past.runs a.session, latest);
   below = each_left (λ s. Less s.job.key l.next_key) (map task_stake a.tasks) (coming p a) s.below;
   once = distinct_left (map task_stake a.tasks) (coming p a) s.distinct;
-  from = each_map (TaskTold (From rs l.channel.side.name marks) Any) (λ u. From rs l.channel.side.name marks u.job) (λ u h. h.0) a.tasks t;
+  from = each-map (TaskTold (From rs l.channel.side.name marks) Any) (λ u. From rs l.channel.side.name marks u.job) (λ u h. h.0) a.tasks t;
   runs = r;
 }
 
@@ -155,7 +149,7 @@ stake_once (t ∷ ts) h = (stake_keys (λ key. key ≢ t.job.key) ts h.0, stake_
 
 once_append : (js is : List Job) → KeysOnce js → KeysOnce is → Each (λ i. Each (λ j. j.key ≢ i.key) is) js → KeysOnce (js ++ is)
 once_append [] is h k a = k
-once_append (j ∷ js) is h k a = (each_append (λ i. i.key ≢ j.key) js is h.0 a.0, once_append js is h.1 k a.1)
+once_append (j ∷ js) is h k a = (each-append (λ i. i.key ≢ j.key) js is h.0 a.0, once_append js is h.1 k a.1)
 
 abbrev AllFound : List RecordParts → Run → List Mark → List Channel → List RecordParts → Type 0
 AllFound rs run marks [] [] = ⊤
@@ -182,8 +176,8 @@ found_apart rs marks run name i [] [] once h d f = tt
 found_apart rs marks run name i [] (x ∷ ds) once h d f = absurd f
 found_apart rs marks run name i (c ∷ cs) [] once h d f = absurd f
 found_apart rs marks run name i (c ∷ cs) (x ∷ ds) once h d f =
-    each_append (λ j. j.key ≢ i.key) (map (λ t. t.job) x.tasks) (recorded_jobs ds)
-    (each_job (λ j. j.key ≢ i.key) x.tasks (each_map (λ t. From rs c.side.name marks t.job) (λ t. t.job.key ≢ i.key) (λ t k e. d.0 (sym (from_alike rs marks name c.side.name i t.job once h k e))) x.tasks f.0.from))
+    each-append (λ j. j.key ≢ i.key) (map (λ t. t.job) x.tasks) (recorded_jobs ds)
+    (each_job (λ j. j.key ≢ i.key) x.tasks (each-map (λ t. From rs c.side.name marks t.job) (λ t. t.job.key ≢ i.key) (λ t k e. d.0 (sym (from_alike rs marks name c.side.name i t.job once h k e))) x.tasks f.0.from))
     (found_apart rs marks run name i cs ds once h d.1 f.2)
 
 found_once : (rs : List RecordParts) (marks : List Mark) (run : Run) (cs : List Channel) (ds : List RecordParts) → KeysOnce (jobs_of marks ++ recorded_jobs rs) → NamesOnce (names_of cs) → AllFound rs run marks cs ds → KeysOnce (recorded_jobs ds)
@@ -192,7 +186,7 @@ found_once rs marks run [] (d ∷ ds) once names f = absurd f
 found_once rs marks run (c ∷ cs) [] once names f = absurd f
 found_once rs marks run (c ∷ cs) (d ∷ ds) once names f =
     once_append (map (λ t. t.job) d.tasks) (recorded_jobs ds) (stake_once d.tasks f.0.once) (found_once rs marks run cs ds once names.1 f.2)
-    (each_job (λ i. Each (λ j. j.key ≢ i.key) (recorded_jobs ds)) d.tasks (each_map (λ t. From rs c.side.name marks t.job) (λ t. Each (λ j. j.key ≢ t.job.key) (recorded_jobs ds)) (λ t h. found_apart rs marks run c.side.name t.job cs ds once h names.0 f.2) d.tasks f.0.from))
+    (each_job (λ i. Each (λ j. j.key ≢ i.key) (recorded_jobs ds)) d.tasks (each-map (λ t. From rs c.side.name marks t.job) (λ t. Each (λ j. j.key ≢ t.job.key) (recorded_jobs ds)) (λ t h. found_apart rs marks run c.side.name t.job cs ds once h names.0 f.2) d.tasks f.0.from))
 
 found_names : (rs : List RecordParts) (marks : List Mark) (run : Run) (cs : List Channel) (ds : List RecordParts) → AllFound rs run marks cs ds → map (λ (d : RecordParts). d.name) ds ≡ names_of cs
 found_names rs marks run [] [] f = refl
@@ -209,7 +203,7 @@ frameworks_of n later (t ∷ ts) lt h = (let le = h.0.0 in omega arith, framewor
 
 offers_of : (n later : ℕ) (ts : List RecordedTask) → n < later → Each (TaskFrom n) ts → Each (λ id. id.run < later) (flat_map (λ t. t.offers) ts)
 offers_of n later [] lt h = tt
-offers_of n later (t ∷ ts) lt h = each_append (λ (id : Numbered). id.run < later) t.offers (flat_map (λ u. u.offers) ts) (each_map (λ (id : Numbered). id.run ≤ n) (λ (id : Numbered). id.run < later) (λ id le. omega arith) t.offers h.0.1) (offers_of n later ts lt h.1)
+offers_of n later (t ∷ ts) lt h = each-append (λ (id : Numbered). id.run < later) t.offers (flat_map (λ u. u.offers) ts) (each-map (λ (id : Numbered). id.run ≤ n) (λ (id : Numbered). id.run < later) (λ id le. omega arith) t.offers h.0.1) (offers_of n later ts lt h.1)
 
 each_found : (rs : List RecordParts) (marks : List Mark) (run : Run) (later : ℕ) (cs : List Channel) (ds : List RecordParts) → run.next_key.run ≡ run.number → run.number < later → AllFound rs run marks cs ds → Each RecordFits ds × Each (λ d. d.run < later) ds × Each (λ j. j.key.run < later) (recorded_jobs ds) × Each (λ j. j.framework.run < later) (recorded_jobs ds) × Each (λ id. id.run < later) (recorded_offers ds)
 each_found rs marks run later [] [] e lt f = (tt, tt, tt, tt, tt)
@@ -220,9 +214,9 @@ each_found rs marks run later (c ∷ cs) (d ∷ ds) e lt f =
     let old : d.run ≤ run.number = f.0.older in (
       (f.0.fits, rest.0),
       (omega arith, rest.1),
-      each_append (λ j. j.key.run < later) (map (λ t. t.job) d.tasks) (recorded_jobs ds) (stake_keys (λ key. key.run < later) d.tasks (each_map (λ s. Less s.job.key run.next_key) (λ s. s.job.key.run < later) (λ s k. key_of_run s.job.key run.next_key run.number later k e lt) (map task_stake d.tasks) f.0.below)) rest.2,
-      each_append (λ (j : Job). j.framework.run < later) (map (λ t. t.job) d.tasks) (recorded_jobs ds) (frameworks_of run.number later d.tasks lt f.0.runs) rest.3,
-      each_append (λ (id : Numbered). id.run < later) (flat_map (λ t. t.offers) d.tasks) (recorded_offers ds) (offers_of run.number later d.tasks lt f.0.runs) rest.4,
+      each-append (λ j. j.key.run < later) (map (λ t. t.job) d.tasks) (recorded_jobs ds) (stake_keys (λ key. key.run < later) d.tasks (each-map (λ s. Less s.job.key run.next_key) (λ s. s.job.key.run < later) (λ s k. key_of_run s.job.key run.next_key run.number later k e lt) (map task_stake d.tasks) f.0.below)) rest.2,
+      each-append (λ (j : Job). j.framework.run < later) (map (λ t. t.job) d.tasks) (recorded_jobs ds) (frameworks_of run.number later d.tasks lt f.0.runs) rest.3,
+      each-append (λ (id : Numbered). id.run < later) (flat_map (λ t. t.offers) d.tasks) (recorded_offers ds) (offers_of run.number later d.tasks lt f.0.runs) rest.4,
     )
 
 pub found_good : (v : Sents) (rs : List RecordParts) (marks : List Mark) (w : World) (later : ℕ) (ds : List RecordParts) → WorldOk v w → OriginOk rs w marks → AllFrom w → AllNamed w.channels → w.run.number < later → IsFound w.channels ds → GoodOpening later ds

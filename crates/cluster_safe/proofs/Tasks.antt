@@ -14,11 +14,12 @@ use Rattle.cluster_model.specs.Steps.{Setup, Marked, history}
 use Rattle.cluster_safe.specs.Offered.{IsAmong}
 use Rattle.cluster_safe.specs.Origin.{Mark, Made, Used, Use, IsOneOf, IsTrail, From, HasOrigin, WasMade, NotUsed, jobs_on, recorded_on, trail}
 use Rattle.cluster_safe.proofs.Histories.{history_origin}
-use Rattle.cluster_safe.proofs.Orders.{each_map}
 use Rattle.cluster_safe.specs.Entries.{Moment, moments}
 use Rattle.cluster_safe.specs.Launches.{IsOffered, WasOffered}
 use Rattle.cluster_safe.specs.Sources.{IsAccepted, IsSource, Traced, LaunchedBy, WasLaunched, HaveSources}
 use Rattle.cluster_safe.proofs.Entries.{history_traced}
+use Rattle.cluster_safe.proofs.Shared.{one_split}
+use Rattle.names_core.proofs.Lists.{each-map}
 
 -- offers
 
@@ -49,15 +50,6 @@ older_only m u agent o older own rest accepted h t w = by (made_by m agent o own
 
 -- jobs
 
-pub one_of_either : (js is : List Job) (j : Job) → IsOneOf j (js ++ is) → IsOneOf j js ⊎ IsOneOf j is
-one_of_either [] is j h = inr h
-one_of_either (i ∷ js) is j (inl e) = inl (inl e)
-one_of_either (i ∷ js) is j (inr h) = later (one_of_either js is j h)
-  where
-    later : IsOneOf j js ⊎ IsOneOf j is → IsOneOf j (i ∷ js) ⊎ IsOneOf j is
-    later (inl k) = inl (inr k)
-    later (inr k) = inr k
-
 -- launched by this entry, out of a use among its marks
 abbrev pub LaunchedFrom : Moment → List Moment → List ℕ → Job → List Mark → Type 0
 LaunchedFrom m older agent j own = (l : LaunchedBy m older agent j) × IsAmong (Used l.used) own
@@ -79,14 +71,14 @@ launched_by m older agent j (Used u ∷ own) rest h t is k = by (bytes_eq u.agen
     later (inr l) = inr l
 
     offered : u.agent ≡ agent → Each (WasOffered older agent) u.offers
-    offered e = each_map (λ (o : Offer). WasMade u.agent o (own ++ rest) × NotUsed o.id (own ++ rest)) (WasOffered older agent) (λ o w. subst (λ a. WasOffered older a o) e (older_only m u u.agent o older own rest h.0 h.1 t w.0)) u.offers is.1
+    offered e = each-map (λ (o : Offer). WasMade u.agent o (own ++ rest) × NotUsed o.id (own ++ rest)) (WasOffered older agent) (λ o w. subst (λ a. WasOffered older a o) e (older_only m u u.agent o older own rest h.0 h.1 t w.0)) u.offers is.1
 
     here : (IsOneOf j (jobs_on agent (own ++ rest)) → Found) → u.agent ≡ agent → IsOneOf j u.jobs ⊎ IsOneOf j (jobs_on agent (own ++ rest)) → Found
     here more e (inl l) = inl (record { used = u; here = e; job = l; accepted = h.0; covered = is.0; offered = offered e }, inl refl)
     here more e (inr l) = more l
 
     by : (b : Bool) → bytes_eq u.agent agent ≡ b → (IsOneOf j (jobs_on agent (own ++ rest)) → Found) → IsOneOf j (jobs_on agent (Used u ∷ own ++ rest)) → Found
-    by true e more l = here more ((bytes_decides u.agent agent).0 e) (one_of_either u.jobs (jobs_on agent (own ++ rest)) j (rw e at l))
+    by true e more l = here more ((bytes_decides u.agent agent).0 e) (one_split u.jobs (jobs_on agent (own ++ rest)) j (rw e at l))
     by false e more l = more (rw e at l)
 
 pub trail_right : (own rest : List Mark) → IsTrail (own ++ rest) → IsTrail rest
@@ -104,8 +96,8 @@ was_launched (m ∷ older) marks agent j t is h =
     by rest (inr k) = inr (rest k)
 
 pub history_sources : (setup : Setup) (records : List RecordParts) (steps : List Marked) → GoodOpening setup.run records → HaveSources records (history setup records steps).state.world (moments setup records steps)
-history_sources setup records steps good = each_map (λ (c : Channel). Each (λ t. From records c.side.name marks t.job) c.agent.durable.tasks) (λ (c : Channel). Each (λ t. WasLaunched (moments setup records steps) c.side.name t.job ⊎ IsOneOf t.job (recorded_on c.side.name records)) c.agent.durable.tasks)
-    (λ c h. each_map (λ t. From records c.side.name marks t.job) (λ t. WasLaunched (moments setup records steps) c.side.name t.job ⊎ IsOneOf t.job (recorded_on c.side.name records)) (λ t k. source c.side.name t.job k) c.agent.durable.tasks h)
+history_sources setup records steps good = each-map (λ (c : Channel). Each (λ t. From records c.side.name marks t.job) c.agent.durable.tasks) (λ (c : Channel). Each (λ t. WasLaunched (moments setup records steps) c.side.name t.job ⊎ IsOneOf t.job (recorded_on c.side.name records)) c.agent.durable.tasks)
+    (λ c h. each-map (λ t. From records c.side.name marks t.job) (λ t. WasLaunched (moments setup records steps) c.side.name t.job ⊎ IsOneOf t.job (recorded_on c.side.name records)) (λ t k. source c.side.name t.job k) c.agent.durable.tasks h)
     (history setup records steps).state.world.channels origin.tasks
   where
     marks : List Mark

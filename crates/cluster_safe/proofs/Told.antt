@@ -27,11 +27,12 @@ use Rattle.cluster_model.specs.Ids.{following, is_among, last_number}
 use Rattle.cluster_model.specs.Agents.{Agent, Draft, has_ended, is_task, state_at, reported, front_of, fronts, front_at, report_of, owning, reopened, reports, opens_next, starts, stated, acknowledged, launched_task, tasks_after, is_front_at, fronts_after, with_tasks, applies, has_room, receives_mail, needs_place, executes, next_of}
 use Rattle.cluster_model.specs.Sides.{Run, Side, Sending, sends_nothing, issue, oldest_again, accepted, may_offer, received_update, forget, forget_all, opens, opened, counts, shut, SideStep, MakeOffer, Withdraw, LaunchFrom, SendKill, SendAck, SendEnd, SendHello, SendAgain, Lose, side_step}
 use Rattle.cluster_model.specs.Channels.{Channel, AgentStep, Draw, DrawMail, Adopt, StopWithout, StopWith, drawn, drawn_mail, adopted, stopped_with, agent_step, ChannelStep, ByMaster, Receive, ByAgent, received_mail, happens}
-use Rattle.cluster_safe.proofs.Ids.{same_is}
 use Rattle.cluster_safe.proofs.Placed.{each_put}
-use Rattle.cluster_safe.proofs.Orders.{each_append, each_map, each_at}
-use Rattle.cluster_safe.proofs.Drafts.{both_true, AllOk, all_if, starts_ok}
-use Rattle.cluster_safe.proofs.Kept.{received_job}
+use Rattle.cluster_safe.proofs.Drafts.{AllOk, all_if, starts_ok}
+use Rattle.cluster_model.proofs.Chains.{received_job}
+use Rattle.names_core.proofs.IdOrder.{same-is}
+use Rattle.names_core.proofs.Lists.{each-append, each-filter, each-map, each_at}
+use Rattle.std.proofs.lemmas.Bool.{and_parts}
 
 -- the record, and that of an open draft, and the draft's mails
 abbrev pub drafts_of : Option Draft → List Agent
@@ -78,7 +79,7 @@ pub record Carried (J : Job → Type 0) (A : Numbered → ℕ → Type 0) (l : C
 -- what is told of more jobs and more acknowledgements
 
 up_wider : (J K : Job → Type 0) (A B : Numbered → ℕ → Type 0) → ((j : Job) → J j → K j) → ((key : Numbered) (k : ℕ) → A key k → B key k) → (m : AgentMail) → UpTold J A m → UpTold K B m
-up_wider J K A B f g (Report session run tasks total) h = each_map (λ b. J b.job) (λ b. K b.job) (λ b x. f b.job x) tasks h
+up_wider J K A B f g (Report session run tasks total) h = each-map (λ b. J b.job) (λ b. K b.job) (λ b x. f b.job x) tasks h
 up_wider J K A B f g (Applied session count) h = tt
 up_wider J K A B f g (Update session key k state ended) h = λ j lt. g key j (h j lt)
 
@@ -93,23 +94,19 @@ down_wider J K A B f g (Hello run dead) h = tt
 down_wider J K A B f g (Issued session number what) h = command_wider J K A B f g what h
 
 agent_wider : (J K : Job → Type 0) (A B : Numbered → ℕ → Type 0) → ((j : Job) → J j → K j) → ((key : Numbered) (k : ℕ) → A key k → B key k) → (a : Agent) → AgentTold J A a → AgentTold K B a
-agent_wider J K A B f g a h = each_map (TaskTold J A) (TaskTold K B) (λ t x. (f t.job x.0, λ j lt. g t.job.key j (x.1 j lt))) a.tasks h
+agent_wider J K A B f g a h = each-map (TaskTold J A) (TaskTold K B) (λ t x. (f t.job x.0, λ j lt. g t.job.key j (x.1 j lt))) a.tasks h
 
 pub told_wider : (J K : Job → Type 0) (A B : Numbered → ℕ → Type 0) → ((j : Job) → J j → K j) → ((key : Numbered) (k : ℕ) → A key k → B key k) → (l : Channel) → Carried J A l → Carried K B l
 told_wider J K A B f g l h = record {
-  booked = each_map (λ b. J b.job) (λ b. K b.job) (λ b x. f b.job x) l.side.booked h.booked;
-  waiting = each_map (CommandTold J A) (CommandTold K B) (command_wider J K A B f g) l.side.waiting h.waiting;
-  states = each_map (AgentTold J A) (AgentTold K B) (agent_wider J K A B f g) (agents_of l) h.states;
-  downs = each_map (DownTold J A) (DownTold K B) (down_wider J K A B f g) l.to_agent h.downs;
-  ups = each_map (UpTold J A) (UpTold K B) (up_wider J K A B f g) l.to_master h.ups;
-  pending = each_map (UpTold J A) (UpTold K B) (up_wider J K A B f g) (pending_of l.draft) h.pending;
+  booked = each-map (λ b. J b.job) (λ b. K b.job) (λ b x. f b.job x) l.side.booked h.booked;
+  waiting = each-map (CommandTold J A) (CommandTold K B) (command_wider J K A B f g) l.side.waiting h.waiting;
+  states = each-map (AgentTold J A) (AgentTold K B) (agent_wider J K A B f g) (agents_of l) h.states;
+  downs = each-map (DownTold J A) (DownTold K B) (down_wider J K A B f g) l.to_agent h.downs;
+  ups = each-map (UpTold J A) (UpTold K B) (up_wider J K A B f g) l.to_master h.ups;
+  pending = each-map (UpTold J A) (UpTold K B) (up_wider J K A B f g) (pending_of l.draft) h.pending;
 }
 
 -- the agent
-
-pub each_filter : {A : Type 0} (P : A → Type 0) (keep : A → Bool) (xs : List A) → Each P xs → Each P (filter keep xs)
-each_filter P keep [] h = tt
-each_filter P keep (x ∷ xs) h = cond_both (keep x) (x ∷ filter keep xs) (filter keep xs) (Each P) (λ e. (h.0, each_filter P keep xs h.1)) (λ e. each_filter P keep xs h.1)
 
 pub each_mapped : {A B : Type 0} (P : A → Type 0) (Q : B → Type 0) (f : A → B) → ((x : A) → P x → Q (f x)) → (xs : List A) → Each P xs → Each Q (map f xs)
 each_mapped P Q f g [] h = tt
@@ -121,13 +118,13 @@ front_told J A session t h =
 
 flat_told : (J : Job → Type 0) (A : Numbered → ℕ → Type 0) (session : ℕ) (ts : List RecordedTask) → Each (TaskTold J A) ts → Each (UpTold J A) (flat_map (front_of session) ts)
 flat_told J A session [] h = tt
-flat_told J A session (t ∷ ts) h = each_append (UpTold J A) (front_of session t) (flat_map (front_of session) ts) (front_told J A session t h.0) (flat_told J A session ts h.1)
+flat_told J A session (t ∷ ts) h = each-append (UpTold J A) (front_of session t) (flat_map (front_of session) ts) (front_told J A session t h.0) (flat_told J A session ts h.1)
 
 fronts_told : (J : Job → Type 0) (A : Numbered → ℕ → Type 0) (a : Agent) → AgentTold J A a → Each (UpTold J A) (fronts a)
 fronts_told J A a h = cond_both a.in_session (flat_map (front_of a.session) a.tasks) [] (Each (UpTold J A)) (λ e. flat_told J A a.session a.tasks h) (λ e. tt)
 
 front_at_told : (J : Job → Type 0) (A : Numbered → ℕ → Type 0) (a : Agent) (key : Numbered) → AgentTold J A a → Each (UpTold J A) (front_at key a)
-front_at_told J A a key h = flat_told J A a.session (filter (is_task key) a.tasks) (each_filter (TaskTold J A) (is_task key) a.tasks h)
+front_at_told J A a key h = flat_told J A a.session (filter (is_task key) a.tasks) (each-filter (TaskTold J A) (is_task key) a.tasks h)
 
 report_told : (J : Job → Type 0) (A : Numbered → ℕ → Type 0) (a : Agent) → AgentTold J A a → UpTold J A (report_of a)
 report_told J A a h = each_mapped (TaskTold J A) (λ b. J b.job) reported (λ t x. x.0) a.tasks h
@@ -145,9 +142,9 @@ acknowledged_told J A key k now t h = cond_both (is_task key t && is_front k t.u
     more : (is_task key t && is_front k t.updates) ≡ true → (j : ℕ) → (j < t.updates.acknowledged) ⊎ (t.updates.acknowledged ≤ j) → j < suc t.updates.acknowledged → A t.job.key j
     more e j (inl lt) le = h.1 j lt
     more e j (inr ge) lt =
-        let both = both_true (is_task key t) (is_front k t.updates) e in
-        let key_is : t.job.key ≡ key = same_is t.job.key key both.0 in
-        let at_front = both_true (eqb t.updates.acknowledged k) (nat_lt k (length t.updates.states)) both.1 in
+        let both = and_parts (is_task key t) (is_front k t.updates) e in
+        let key_is : t.job.key ≡ key = same-is t.job.key key both.0 in
+        let at_front = and_parts (eqb t.updates.acknowledged k) (nat_lt k (length t.updates.states)) both.1 in
         let place : t.updates.acknowledged ≡ k = (Decides-eqb t.updates.acknowledged k).0 at_front.0 in
         let is : j ≡ k = omega arith in
         subst (λ i. A i j) (sym key_is) (subst (A key) (sym is) now)
@@ -155,8 +152,8 @@ acknowledged_told J A key k now t h = cond_both (is_task key t && is_front k t.u
 tasks_told : (J : Job → Type 0) (A : Numbered → ℕ → Type 0) (w : Command) (ts : List RecordedTask) → CommandTold J A w → Each (TaskTold J A) ts → Each (TaskTold J A) (tasks_after w ts)
 tasks_told J A (Launch job offers) ts w h = each_put (TaskTold J A) (launched_task job offers) ts (w, λ j lt. absurd (omega arith)) h
 tasks_told J A (Kill key) ts w h = each_mapped (TaskTold J A) (TaskTold J A) (stated key Killed) (stated_told J A key Killed) ts h
-tasks_told J A (Ack key k) ts w h = each_filter (TaskTold J A) (λ t. not (is_done t.updates)) (map (acknowledged key k) ts) (each_mapped (TaskTold J A) (TaskTold J A) (acknowledged key k) (acknowledged_told J A key k w) ts h)
-tasks_told J A (EndFramework framework) ts w h = each_filter (TaskTold J A) (λ t. not (same t.job.framework framework)) ts h
+tasks_told J A (Ack key k) ts w h = each-filter (TaskTold J A) (λ t. not (is_done t.updates)) (map (acknowledged key k) ts) (each_mapped (TaskTold J A) (TaskTold J A) (acknowledged key k) (acknowledged_told J A key k w) ts h)
+tasks_told J A (EndFramework framework) ts w h = each-filter (TaskTold J A) (λ t. not (same t.job.framework framework)) ts h
 
 command_told : (J : Job → Type 0) (A : Numbered → ℕ → Type 0) (a : Agent) (w : Command) → CommandTold J A w → AgentTold J A a → DraftTold J A (applies a w)
 command_told J A a w x h = (after, (tt, by_kind w a (with_tasks a (tasks_after w a.tasks) (suc a.applied)) after))
@@ -237,7 +234,7 @@ draw_mail_told J A c (Some m) x h = drawn_told J A c c.draft (receives_mail c.ag
 
 adopt_told : (J : Job → Type 0) (A : Numbered → ℕ → Type 0) (c : Channel) (o : Option Draft) → c.draft ≡ o → Carried J A c → Carried J A (adopted c o)
 adopt_told J A c None e h = h
-adopt_told J A c (Some d) e h = record { booked = h.booked; waiting = h.waiting; states = (states.1.0, tt); downs = h.downs; ups = each_append (UpTold J A) c.to_master d.mails h.ups pending; pending = tt }
+adopt_told J A c (Some d) e h = record { booked = h.booked; waiting = h.waiting; states = (states.1.0, tt); downs = h.downs; ups = each-append (UpTold J A) c.to_master d.mails h.ups pending; pending = tt }
   where
     states : Each (AgentTold J A) (c.agent ∷ d.after ∷ [])
     states = subst (λ o. Each (AgentTold J A) (c.agent ∷ drafts_of o)) e h.states
@@ -269,8 +266,8 @@ each_drop P (suc n) (x ∷ xs) h = each_drop P n xs h.1
 forget_told : (P : Booked → Type 0) (w : Command) (bs : List Booked) → Each P bs → Each P (forget w bs)
 forget_told P (Launch job offers) bs h = h
 forget_told P (Kill key) bs h = h
-forget_told P (Ack key k) bs h = each_filter P (λ b. not (b.ended && same b.job.key key && b.received == suc k && is_terminal b.state)) bs h
-forget_told P (EndFramework framework) bs h = each_filter P (λ b. not (same b.job.framework framework)) bs h
+forget_told P (Ack key k) bs h = each-filter P (λ b. not (b.ended && same b.job.key key && b.received == suc k && is_terminal b.state)) bs h
+forget_told P (EndFramework framework) bs h = each-filter P (λ b. not (same b.job.framework framework)) bs h
 
 forget_all_told : (P : Booked → Type 0) (ws : List Command) (bs : List Booked) → Each P bs → Each P (forget_all ws bs)
 forget_all_told P [] bs h = h
@@ -295,7 +292,7 @@ abbrev pub past : Channel → Sending → Channel
 past c x = record c { side = x.side; to_agent = c.to_agent ++ x.sent }
 
 past_told : (J : Job → Type 0) (A : Numbered → ℕ → Type 0) (c : Channel) (x : Sending) → Carried J A c → Each (λ b. J b.job) x.side.booked → Each (CommandTold J A) x.side.waiting → Each (DownTold J A) x.sent → Carried J A (past c x)
-past_told J A c x h b w m = record { booked = b; waiting = w; states = h.states; downs = each_append (DownTold J A) c.to_agent x.sent h.downs m; ups = h.ups; pending = h.pending }
+past_told J A c x h b w m = record { booked = b; waiting = w; states = h.states; downs = each-append (DownTold J A) c.to_agent x.sent h.downs m; ups = h.ups; pending = h.pending }
 
 -- what a side sends from, and the mails so far
 abbrev pub SendingTold : (Job → Type 0) → (Numbered → ℕ → Type 0) → Sending → Type 0
@@ -306,7 +303,7 @@ sending_past J A c x h s = past_told J A c x h s.0 s.1 s.2
 
 pub issue_told : (J : Job → Type 0) (A : Numbered → ℕ → Type 0) (x : Sending) (w : Command) → CommandTold J A w → SendingTold J A x → SendingTold J A (issue x w)
 issue_told J A x w t h = cond_both x.side.is_open (record { run = x.run; side = record x.side { waiting = x.side.waiting ++ w ∷ [] }; sent = x.sent ++ Issued x.side.session (suc (x.side.known + length x.side.waiting)) w ∷ [] }) x (SendingTold J A)
-    (λ e. (h.0, each_append (CommandTold J A) x.side.waiting (w ∷ []) h.1 (t, tt), each_append (DownTold J A) x.sent (Issued x.side.session (suc (x.side.known + length x.side.waiting)) w ∷ []) h.2 (t, tt))) (λ e. h)
+    (λ e. (h.0, each-append (CommandTold J A) x.side.waiting (w ∷ []) h.1 (t, tt), each-append (DownTold J A) x.sent (Issued x.side.session (suc (x.side.known + length x.side.waiting)) w ∷ []) h.2 (t, tt))) (λ e. h)
 
 quiet_told : (J : Job → Type 0) (A : Numbered → ℕ → Type 0) (run : Run) (c : Channel) → Carried J A c → SendingTold J A (sends_nothing run c.side)
 quiet_told J A run c h = (h.booked, h.waiting, tt)

@@ -27,12 +27,12 @@ use Rattle.cluster_model.specs.Mails.{ticks, ticked}
 use Rattle.cluster_model.specs.Sides.{Run, Side, Sending, sends_nothing, issue, oldest_again, books, Launching, may_launch, launch_one, launch_all, is_good, used_offers, without_used, offer_rows, may_offer, received_update, forget_all, last_session, opens, opened, counts, shut, halted, SideStep, MakeOffer, Withdraw, LaunchFrom, SendKill, SendAck, SendEnd, SendHello, SendAgain, Lose, side_step}
 use Rattle.cluster_model.specs.Steps.{new_to_agent, new_to_master, sent_in, sent_between, sent_by, Done, happening_of, with_tick, ticks_at, master_does, answer, master_falls, instead, fallen_answer, Marked, step_marked}
 use Rattle.cluster_safe.specs.Offered.{IsAmong}
-use Rattle.cluster_safe.proofs.Drafts.{both_true}
-use Rattle.cluster_safe.proofs.Orders.{each_append}
 use Rattle.cluster_safe.proofs.SideNames.{agent_beside, agent_side}
 use Rattle.cluster_safe.specs.Launches.{IsLaunchOf, WasSent}
 use Rattle.cluster_safe.proofs.Lists.{among_front, each_among}
 use Rattle.cluster_safe.proofs.OriginSent.{IsTick}
+use Rattle.names_core.proofs.Lists.{each-append}
+use Rattle.std.proofs.lemmas.Bool.{and_parts}
 
 -- commands with the numbers behind k in this session are among the mails
 abbrev pub AreSent : ℕ → ℕ → List Command → List MasterMail → Type 0
@@ -104,8 +104,8 @@ side_waits mails run s Lose h = cond_both s.is_open (shut s s.session) s (λ (x 
 
 counted : (s : Side) (session count : ℕ) → counts s session count ≡ true → s.known + (count - s.known) ≡ count
 counted s session count e =
-    let two : (nat_lt s.known count && nat_le count (s.known + length s.waiting)) ≡ true = (both_true (s.is_open && session == s.session) (nat_lt s.known count && nat_le count (s.known + length s.waiting)) e).1 in
-    let lt : nat_lt s.known count ≡ true = (both_true (nat_lt s.known count) (nat_le count (s.known + length s.waiting)) two).0 in
+    let two : (nat_lt s.known count && nat_le count (s.known + length s.waiting)) ≡ true = (and_parts (s.is_open && session == s.session) (nat_lt s.known count && nat_le count (s.known + length s.waiting)) e).1 in
+    let lt : nat_lt s.known count ≡ true = (and_parts (nat_lt s.known count) (nat_le count (s.known + length s.waiting)) two).0 in
     grind (arith, nat_tests, lt)
 
 received_waits : (run : Run) (c : Channel) (o : Option AgentMail) → WaitsIn c → WaitsIn (received_mail run c o)
@@ -168,17 +168,17 @@ ups_old c agent (mail ∷ mails) = (tt, ups_old c agent mails)
 
 in_old : (c : Cluster) (old new : Channel) (more : List MasterMail) → new.to_agent ≡ old.to_agent ++ more → Each (λ mail. IsOld c (MailToAgent (record { agent = new.side.name; mail = mail }))) more → Each (IsOld c) (sent_in old new)
 in_old c old new more e h =
-    each_append (IsOld c) (map (λ mail. MailToAgent (record { agent = new.side.name; mail = mail })) (new_to_agent old new)) (map (λ mail. MailToMaster (record { agent = new.side.name; mail = mail })) (new_to_master old new))
+    each-append (IsOld c) (map (λ mail. MailToAgent (record { agent = new.side.name; mail = mail })) (new_to_agent old new)) (map (λ mail. MailToMaster (record { agent = new.side.name; mail = mail })) (new_to_master old new))
     (downs_old c new.side.name (new_to_agent old new) (subst (Each (λ mail. IsOld c (MailToAgent (record { agent = new.side.name; mail = mail })))) (sym (ap (drop (length old.to_agent)) e ∙ drop-append_seam old.to_agent more)) h))
     (ups_old c new.side.name (new_to_master old new))
 
 same_old : (c : Cluster) (cs : List Channel) → Each (IsOld c) (sent_between cs cs)
 same_old c [] = tt
-same_old c (x ∷ cs) = each_append (IsOld c) (sent_in x x) (sent_between cs cs) (in_old c x x [] (sym (append-nil x.to_agent)) tt) (same_old c cs)
+same_old c (x ∷ cs) = each-append (IsOld c) (sent_in x x) (sent_between cs cs) (in_old c x x [] (sym (append-nil x.to_agent)) tt) (same_old c cs)
 
 shut_old : (c : Cluster) (f : Side → Side) (cs : List Channel) → Each (IsOld c) (sent_between cs (map (with_side f) cs))
 shut_old c f [] = tt
-shut_old c f (x ∷ cs) = each_append (IsOld c) (sent_in x (with_side f x)) (sent_between cs (map (with_side f) cs)) (in_old c x (with_side f x) [] (sym (append-nil x.to_agent)) tt) (shut_old c f cs)
+shut_old c f (x ∷ cs) = each-append (IsOld c) (sent_in x (with_side f x)) (sent_between cs (map (with_side f) cs)) (in_old c x (with_side f x) [] (sym (append-nil x.to_agent)) tt) (shut_old c f cs)
 
 -- steps that leave the side, and send nothing new
 abbrev OnlyAgain : SideStep → Type 0
@@ -232,16 +232,16 @@ at_old c agent step run (y ∷ cs) waits q h = by (bytes_eq y.side.name agent) r
     by : (b : Bool) → bytes_eq y.side.name agent ≡ b → AgainOld c cs (at_agent agent (ByMaster step) run cs).channels → AgainOld c (y ∷ cs) (at_agent agent (ByMaster step) run (y ∷ cs)).channels
     by true e rest = rw e (record {
       sides = ((h.0.0, h.0.1, side ∙ h.0.2), h.1);
-      sent = each_append (IsOld c) (sent_in y new) (sent_between cs cs) (in_old c y new (side_step run y.side step).sent refl (subst (λ (s : Side). Each (λ mail. IsOld c (MailToAgent (record { agent = s.name; mail = mail }))) (side_step run y.side step).sent) (sym side) old)) (same_old c cs);
+      sent = each-append (IsOld c) (sent_in y new) (sent_between cs cs) (in_old c y new (side_step run y.side step).sent refl (subst (λ (s : Side). Each (λ mail. IsOld c (MailToAgent (record { agent = s.name; mail = mail }))) (side_step run y.side step).sent) (sym side) old)) (same_old c cs);
     })
     by false e rest = rw e (record {
       sides = (h.0, rest.sides);
-      sent = each_append (IsOld c) (sent_in y y) (sent_between cs (at_agent agent (ByMaster step) run cs).channels) (in_old c y y [] (sym (append-nil y.to_agent)) tt) rest.sent;
+      sent = each-append (IsOld c) (sent_in y y) (sent_between cs (at_agent agent (ByMaster step) run cs).channels) (in_old c y y [] (sym (append-nil y.to_agent)) tt) rest.sent;
     })
 
 ticks_old : (c : Cluster) (ss : List Side) (w : World) → AllWait c.world → Each (AsBefore c) w.channels → Each (IsOld c) (sent_by (map happening_of (map ticks ss)) w)
 ticks_old c [] w waits h = tt
-ticks_old c (s ∷ ss) w waits h = each_append (IsOld c) (sent_between w.channels (after w here).channels) (sent_by (map happening_of (map ticks ss)) (after w here)) one.sent (ticks_old c ss (after w here) waits one.sides)
+ticks_old c (s ∷ ss) w waits h = each-append (IsOld c) (sent_between w.channels (after w here).channels) (sent_by (map happening_of (map ticks ss)) (after w here)) one.sent (ticks_old c ss (after w here) waits one.sides)
   where
     here : Happening
     here = At s.name (ByMaster (if s.is_open then SendAgain else SendHello))
@@ -267,7 +267,7 @@ old_if c true x y p q = p
 old_if c false x y p q = q
 
 fell_old : (c now : Cluster) (r : Result Done ClusterFault) → SendsOld c (instead r (master_falls now))
-fell_old c now (Ok d) = each_append (IsOld c) (sent_between now.world.channels (map (with_side halted) now.world.channels)) [] (shut_old c halted now.world.channels) tt
+fell_old c now (Ok d) = each-append (IsOld c) (sent_between now.world.channels (map (with_side halted) now.world.channels)) [] (shut_old c halted now.world.channels) tt
 fell_old c now (Err refusal) = tt
 
 tick_old : (c : Cluster) (now : ℕ) → AllWait c.world → SendsOld c (answer c (Tick now))

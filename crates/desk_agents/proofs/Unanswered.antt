@@ -22,6 +22,7 @@ use Rattle.desk_agents.specs.Ends.{IsShut}
 use Rattle.desk_agents.specs.Seen.{IsSeen}
 use Rattle.desk_agents.specs.declared.fault.Stop.{Stop}
 use Rattle.desk_agents.specs.declared.fault.Stop.TheVariants.{Ended}
+use Rattle.names_core.proofs.IdOrder.{same-is}
 
 module _ (is_taken : Taking) (is_refused : Refusing) (is_open : OpenOffer → Type 0) (seconds : ℕ) where
   abbrev Has : PassState Entry → PassState Entry → Type 0
@@ -80,9 +81,6 @@ shut_by_look {T = T} history sound lacks p waited over is never =
 tells_same : (a b : Numbered) → is_eq (offer_cmp a b) ≡ same b a
 tells_same a b = grind (arith, nat_tests)
 
-same_is : (a b : Numbered) → same a b ≡ true → a ≡ b
-same_is a b h = grind (arith, nat_tests)
-
 -- one offer more was noted
 pub noted_more : (now : ℕ) (before first next : Numbered → Option ℕ) (offers : List OpenOffer) (i : ℕ) (o : OpenOffer) → i < length offers → o ≡ get_or offers i o
     → ((id : Numbered) → first id ≡ noted_of now before (take i offers) id) → ((id : Numbered) → next id ≡ cond (is_eq (offer_cmp o.id id)) (Some (seen_since now (before o.id))) (first id))
@@ -91,7 +89,7 @@ noted_more now before first next offers i o within is noted puts id =
     puts id
     ∙ ap (λ (b : Bool). cond b (Some (seen_since now (before o.id))) (first id)) (tells_same o.id id)
     ∙ ap (λ (x : Option ℕ). cond (same id o.id) (Some (seen_since now (before o.id))) x) (noted id)
-    ∙ by (list_any (λ x. same id x.id) (take i offers)) (same id o.id) (λ h. ap (λ (x : Numbered). seen_since now (before x)) (sym (same_is id o.id h)))
+    ∙ by (list_any (λ x. same id x.id) (take i offers)) (same id o.id) (λ h. ap (λ (x : Numbered). seen_since now (before x)) (sym (same-is id o.id h)))
     ∙ ap (λ (b : Bool). if b then Some (seen_since now (before id)) else None) (sym (list_any_more (λ x. same id x.id) offers i o within ∙ ap (λ (x : OpenOffer). list_any (λ y. same id y.id) (take i offers) || same id x.id) (sym is)))
   where
     by : (a b : Bool) → (b ≡ true → seen_since now (before o.id) ≡ seen_since now (before id))

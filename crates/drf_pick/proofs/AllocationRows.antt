@@ -8,20 +8,9 @@ use Rattle.quantity.proofs.Amounts.{amount-append}
 use Rattle.drf_pick.specs.Orders.{Among}
 use Rattle.drf_pick.specs.Shown.{ClientsOnce, NoneOf}
 use Rattle.drf_pick.specs.Allocations.{Client, Allocation, all_rows, role_rows, rows_to}
+use Rattle.names_core.proofs.IdOrder.{same-comm, same-is, same_itself}
 
 -- ids
-
-pub same_back : (a b : Numbered) → same a b ≡ same b a
-same_back a b = grind (arith, nat_tests)
-
-pub same_itself : (a : Numbered) → same a a ≡ true
-same_itself a = grind (arith, nat_tests)
-
-pub same_is : (a b : Numbered) → same a b ≡ true → a ≡ b
-same_is a b h =
-    let n : a.n ≡ b.n = grind (arith, nat_tests) in
-    let run : a.run ≡ b.run = grind (arith, nat_tests) in
-    let e : record { run = a.run; n = a.n } ≡ b = rw (n, run) refl in e
 
 pub find_none : (id : Numbered) (fs : List Client) → NoneOf id fs → find (λ f. same f.framework id) fs ≡ None
 find_none id [] h = refl
@@ -29,7 +18,7 @@ find_none id (f ∷ fs) h = rw h.0 (find_none id fs h.1)
 
 not_its_own : (id : Numbered) (cs : List Client) (c : Client) → NoneOf id cs → Among c cs → same id c.framework ≡ false
 not_its_own id [] c none i = absurd i
-not_its_own id (d ∷ cs) c none (inl e) = same_back id c.framework ∙ ap (λ (x : Client). same x.framework id) e ∙ none.0
+not_its_own id (d ∷ cs) c none (inl e) = same-comm id c.framework ∙ ap (λ (x : Client). same x.framework id) e ∙ none.0
 not_its_own id (d ∷ cs) c none (inr i) = not_its_own id cs c none.1 i
 
 pub find_own : (cs : List Client) (c : Client) → ClientsOnce cs → Among c cs → find (λ d. same d.framework c.framework) cs ≡ Some c
@@ -39,7 +28,7 @@ find_own (d ∷ cs) c once (inr i) = rw (not_its_own d.framework cs c once.0 i) 
 
 pub none_of_same : (a b : Numbered) (cs : List Client) → same a b ≡ true → NoneOf a cs → NoneOf b cs
 none_of_same a b [] e none = tt
-none_of_same a b (c ∷ cs) e none = (ap (same c.framework) (sym (same_is a b e)) ∙ none.0, none_of_same a b cs e none.1)
+none_of_same a b (c ∷ cs) e none = (ap (same c.framework) (sym (same-is a b e)) ∙ none.0, none_of_same a b cs e none.1)
 
 -- rows of a framework
 
@@ -107,7 +96,7 @@ none_part name [] role g h = refl
 none_part name (f ∷ fs) role g h = omega (arith, role_first name f fs role (g ∷ []), none_part name fs role g h.1, by (is_in role f))
   where
     other : same g.framework f.framework ≡ false
-    other = same_back g.framework f.framework ∙ h.0
+    other = same-comm g.framework f.framework ∙ h.0
 
     nothing : amount name (rows_to f.framework (g ∷ [])) ≡ 0
     nothing = to-one name f.framework g [] ∙ (rw other (omega arith))
@@ -122,7 +111,7 @@ role-one name (f ∷ fs) role g once = by (same f.framework g.framework) refl (r
   where
     own : (b : Bool) → same f.framework g.framework ≡ b → (c : Bool) → cond c (amount name (rows_to f.framework (g ∷ []))) 0 ≡ cond c (part g name b) 0
     own b e true =
-        let turned : same g.framework f.framework ≡ b = same_back g.framework f.framework ∙ e in
+        let turned : same g.framework f.framework ≡ b = same-comm g.framework f.framework ∙ e in
         let one : part g name (same g.framework f.framework) ≡ part g name b = ap (part g name) turned in
         omega (arith, to-one name f.framework g [], one)
     own b e false = refl

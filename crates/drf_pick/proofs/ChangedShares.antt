@@ -9,8 +9,8 @@ use Rattle.drf_shares.specs.Sums.{plus_rows}
 use Rattle.drf_pick.specs.Shares.{Holder, RoleSum, Tally, any_role, at_first, given, given_holders, given_roles, given_to, held_more, holder_of, holder_with, holding, is_holder, is_role, of_role, returned_holders, returned_roles, returning, role_given, role_holding, role_returning, role_sum_of, roles_moved, roles_weighed, roles_with, weighing, with_holder, with_role}
 use Rattle.drf_pick.specs.Fractions.{OfHolders, OfOthers, OfRoles, OfRolesBut, holder_held, role_held}
 use Rattle.drf_pick.proofs.KeptShares.{found_changed, held_same, kept, more_to, one_more, others, others_more}
-use Rattle.drf_pick.proofs.AllocationRows.{same_itself}
 use Rattle.drf_pick.proofs.Places.{unchanged}
+use Rattle.names_core.proofs.IdOrder.{same_itself}
 
 pub given_others : (f : Numbered) (rows t : List Row) (hs : List Holder) (fs : List Part) → OfHolders t hs fs → OfOthers f t (given_holders f rows hs) fs
 given_others f rows t hs fs all = others holder_held (is_holder f) (holding rows) t (λ h. refl) hs fs all

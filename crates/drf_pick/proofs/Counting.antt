@@ -122,15 +122,6 @@ pub counted_all : (fs : List Found) → AllCounted fs → counted_of fs ≡ all_
 counted_all [] all = refl
 counted_all (f ∷ fs) all = ap (λ b. cond b f.allocations.items [] ++ counted_of fs) all.0 ∙ ap (λ (as_ : List Allocation). f.allocations.items ++ as_) (counted_all fs all.1)
 
--- given, and counted then
-pub where_ok : {T E P Q : Type 0} (result : Result T E) → (P → Q) → OnOk result P → OnOk result Q
-where_ok (Ok done) step is = step is
-where_ok (Err fault) step is = tt
-
-pub where_err : {T E : Type 0} {P Q : E → Type 0} (result : Result T E) → ((fault : E) → P fault → Q fault) → IfErr result P → IfErr result Q
-where_err (Ok done) step is = tt
-where_err (Err fault) step is = step fault is
-
 pub count_at : (fs : List Found) (i : ℕ) (f g : Found) (cs : List Client) (t : Tally) → i < length fs → f ≡ get_or fs i f → g ≡ record { allocations = f.allocations; is_counted = true } → ClientsOnce cs → TallyShows (counted_of fs) cs t
     → TallyShows (counted_of (set fs i g)) cs (fold allocated t (due_in f))
 count_at fs i f g cs t within is now once s = by f.is_counted refl

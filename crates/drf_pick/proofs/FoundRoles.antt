@@ -15,6 +15,7 @@ use Rattle.drf_pick.specs.Shares.{AreWeighed, RoleSum, RolesOnce, at_first, is_r
 use Rattle.drf_pick.specs.Places.{AreFoundBy}
 use Rattle.drf_pick.proofs.OnceRoles.{changed_once, push_once}
 use Rattle.drf_pick.proofs.Weights.{changed_weighed, push_weighed}
+use Rattle.names_core.proofs.Lists.{bytes_eq-comm}
 
 -- one of them holds another amount, or has another weight
 
@@ -77,15 +78,6 @@ found_pushed place_of name held rs none found role = by (bytes_eq name role) ref
 
 -- by the entries of a map
 
-turned : (a b : List ℕ) → bytes_eq a b ≡ bytes_eq b a
-turned a b = by (bytes_eq a b) (bytes_eq b a) refl refl
-  where
-    by : (x y : Bool) → bytes_eq a b ≡ x → bytes_eq b a ≡ y → x ≡ y
-    by true true e d = refl
-    by false false e d = refl
-    by true false e d = absurd (true≢false (sym ((bytes_eq-Decides b a).1 (sym ((bytes_eq-Decides a b).0 e))) ∙ d))
-    by false true e d = absurd (true≢false (sym ((bytes_eq-Decides a b).1 (sym ((bytes_eq-Decides b a).0 d))) ∙ e))
-
 same_key : (a b role : List ℕ) → bytes_eq a b ≡ true → bytes_eq a role ≡ bytes_eq b role
 same_key a b role e = ap (λ (x : List ℕ). bytes_eq x role) ((bytes_eq-Decides a b).0 e)
 
@@ -105,7 +97,7 @@ module _ {Y : Type 0} where
 
   -- whether a name is a key
   tells : (role : List ℕ) (k : String Y) → is_eq (slice_cmp nat_cmp role (string_bytes k)) ≡ bytes_eq (string_bytes k) role
-  tells role k = sym (texts_ties role (string_bytes k)) ∙ turned role (string_bytes k)
+  tells role k = sym (texts_ties role (string_bytes k)) ∙ bytes_eq-comm role (string_bytes k)
 
   -- keys in an order tell whether they are alike
   alike : (k e : String Y) (o : Ordering) → text_cmp k e ≡ o → bytes_eq (string_bytes k) (string_bytes e) ≡ is_eq o

@@ -11,9 +11,11 @@ use Rattle.drf_pick.specs.Shares.{Holder, RoleSum, Tally, can_back, holder_has, 
 use Rattle.drf_pick.specs.Least.{role_share}
 use Rattle.drf_pick.specs.Allocations.{Allocation, Client}
 use Rattle.drf_pick.specs.Shown.{ClientsOnce, MemoryRefused, TallyShows, is_known}
-use Rattle.drf_pick.proofs.AllocationRows.{part, role-append, role-one, role_part, same_back, to-more}
-use Rattle.drf_pick.proofs.Shown.{Alike, found_alike, held_of, is_one, known_found, name_itself}
+use Rattle.drf_pick.proofs.AllocationRows.{part, role-append, role-one, role_part, to-more}
+use Rattle.drf_pick.proofs.Shown.{Alike, found_alike, held_of, is_one, known_found}
 use Rattle.drf_pick.proofs.Less.{same_between, tally_alike}
+use Rattle.names_core.proofs.IdOrder.{same-comm}
+use Rattle.names_core.proofs.Lists.{bytes_eq-refl}
 
 -- one that is found
 found_in : (P : Client → Type 0) (id : Numbered) (cs : List Client) (c : Client) → find (λ d. same d.framework id) cs ≡ Some c → AllByRecursion P cs → (same c.framework id ≡ true) × P c
@@ -36,7 +38,7 @@ module _ (gs : List Allocation) (g : Allocation) (cs : List Client) (t : Tally) 
 
       least : (name : List ℕ) → amount name g.resources ≤ amount name r.held
       least name =
-          let own : role_part name g c.role (find (λ d. same d.framework g.framework) cs) ≡ amount name g.resources = ap (role_part name g c.role) found ∙ ap (part g name) (name_itself c.role) in
+          let own : role_part name g c.role (find (λ d. same d.framework g.framework) cs) ≡ amount name g.resources = ap (role_part name g c.role) found ∙ ap (part g name) (bytes_eq-refl c.role) in
           let held : amount name (role_share t.roles c.role).held ≡ amount name r.held = ap (λ o. amount name (held_of o)) is in
           omega (arith, own, held, s.roles c.role shown name, role-append name cs c.role gs (g ∷ []), role-one name cs c.role g once)
 
@@ -50,7 +52,7 @@ module _ (gs : List Allocation) (g : Allocation) (cs : List Client) (t : Tally) 
 
       least : (name : List ℕ) → amount name g.resources ≤ amount name h.held
       least name =
-          let whole : part g name (same g.framework c.framework) ≡ amount name g.resources = ap (part g name) (same_back g.framework c.framework ∙ its.0) in
+          let whole : part g name (same g.framework c.framework) ≡ amount name g.resources = ap (part g name) (same-comm g.framework c.framework ∙ its.0) in
           omega (arith, alike.2 name, to-more name c.framework gs g, whole)
 
       own : covers h.held g.resources ≡ true

@@ -11,8 +11,10 @@ use Rattle.drf_shares.specs.Sums.{IsSum}
 use Rattle.drf_pick.specs.Shares.{Holder, RoleSum, Tally, at_first, is_holder, is_role, returned, returned_holders, returned_roles, returning, role_returning}
 use Rattle.drf_pick.specs.Allocations.{Client, Allocation, role_rows, rows_to}
 use Rattle.drf_pick.specs.Shown.{ClientsOnce, HoldSums, HoldersShow, NoneOf, RolesShow, SameAllocations, Shows, TallyShows, is_known}
-use Rattle.drf_pick.proofs.AllocationRows.{find_none, none_of_same, part, role-append, role-one, role_part, same_back, to-append, to-more, to-one}
-use Rattle.drf_pick.proofs.Shown.{Alike, changed_known, found_alike, held_of, is_one, known_found, name_is, other_found, own_found, role_held}
+use Rattle.drf_pick.proofs.AllocationRows.{find_none, none_of_same, part, role-append, role-one, role_part, to-append, to-more, to-one}
+use Rattle.drf_pick.proofs.Shown.{Alike, changed_known, found_alike, held_of, is_one, known_found, other_found, own_found, role_held}
+use Rattle.names_core.proofs.IdOrder.{same-comm}
+use Rattle.names_core.proofs.Lists.{bytes_eq-is}
 
 -- allocations of the same amounts
 
@@ -52,7 +54,7 @@ holders_fewer gs g (h ∷ hs) (c ∷ cs) none s = ((s.0.0, s.0.1, λ name. s.0.2
   where
     stays : (name : List ℕ) → amount name (rows_to c.framework (gs ++ g ∷ [])) ≡ amount name (rows_to c.framework gs)
     stays name =
-        let nothing : part g name (same g.framework c.framework) ≡ 0 = ap (part g name) (same_back g.framework c.framework ∙ none.0) in
+        let nothing : part g name (same g.framework c.framework) ≡ 0 = ap (part g name) (same-comm g.framework c.framework ∙ none.0) in
         omega (arith, to-more name c.framework gs g, nothing)
 
 fewer_shown : (gs : List Allocation) (g : Allocation) (h : Holder) (c : Client) → IsSum h.held → same c.framework g.framework ≡ true → Shows (gs ++ g ∷ []) h c → Shows gs (returning g.resources h) c
@@ -60,7 +62,7 @@ fewer_shown gs g h c sum is s = (s.0, s.1, less)
   where
     less : (name : List ℕ) → amount name (rest_of h.held g.resources) ≡ amount name (rows_to c.framework gs)
     less name =
-        let whole : part g name (same g.framework c.framework) ≡ amount name g.resources = ap (part g name) (same_back g.framework c.framework ∙ is) in
+        let whole : part g name (same g.framework c.framework) ≡ amount name g.resources = ap (part g name) (same-comm g.framework c.framework ∙ is) in
         omega (arith, amount-rest h.held g.resources sum.ordered name, s.2 name, to-more name c.framework gs g, whole)
 
 holders_less : (gs : List Allocation) (g : Allocation) (hs : List Holder) (cs : List Client) → ClientsOnce cs → IfSome (find (is_holder g.framework) hs) (λ h. IsSum h.held) → HoldersShow (gs ++ g ∷ []) hs cs → HoldersShow gs (returned_holders g.framework g.resources hs) cs
@@ -108,7 +110,7 @@ roles_less gs g cs rs once (Some h) (Some c) found a sums s role known name = by
 
     by : (b : Bool) → bytes_eq h.role role ≡ b → amount name (role_held (at_first (is_role h.role) (role_returning g.resources) rs) role) ≡ amount name (role_rows cs role gs)
     by true e =
-        let is : h.role ≡ role = name_is h.role role e in
+        let is : h.role ≡ role = bytes_eq-is h.role role e in
         let whole = ap (part g name) e in
         let sum = subst (λ q. IfSome (find (is_role q) rs) (λ (r : RoleSum). IsSum r.held)) is sums.1 in
         let now = ap (λ q. amount name (role_held (at_first (is_role q) (role_returning g.resources) rs) role)) is ∙ less_held role g.resources rs was sum name in

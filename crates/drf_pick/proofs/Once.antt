@@ -88,8 +88,3 @@ once_changed t change keeps (g ∷ hs) once = by_case (is_holder t g) (once_chan
     by_case : (b : Bool) → HoldersOnce (at_first (is_holder t) change hs) → HoldersOnce (cond b (change g ∷ hs) (g ∷ at_first (is_holder t) change hs))
     by_case true ih = (ap (λ (id : Numbered). find (is_holder id) hs) (keeps g) ∙ once.0, once.1)
     by_case false ih = (find_none_changed g.framework t change keeps hs once.0, ih)
-
--- none is left
-pub none_left : {X : Type 0} (o : Option X) → is_some o ≡ false → o ≡ None
-none_left None e = refl
-none_left (Some x) e = absurd (true≢false e)

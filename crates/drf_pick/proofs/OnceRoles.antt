@@ -9,6 +9,7 @@ use Rattle.std.proofs.lemmas.Slice.Eq.{bytes_eq-Decides}
 use Rattle.drf_pick.specs.Shares.{RoleSum, RolesOnce, is_role, at_first}
 use Rattle.drf_pick.proofs.Once.{none_here}
 use Rattle.drf_pick.proofs.Places.{found_at}
+use Rattle.names_core.proofs.Lists.{turned_names}
 
 same_name : (a b name : List ℕ) → bytes_eq a name ≡ true → bytes_eq b name ≡ true → bytes_eq b a ≡ true
 same_name a b name h k = (bytes_eq-Decides b a).1 ((bytes_eq-Decides b name).0 k ∙ sym ((bytes_eq-Decides a name).0 h))
@@ -54,13 +55,6 @@ same_place name other rs i j at its = by_case (nat_eq i j) refl (bytes_eq name o
 
 -- one more
 
-not_same_name : (a b : List ℕ) → bytes_eq b a ≡ false → bytes_eq a b ≡ false
-not_same_name a b h = by_case (bytes_eq a b) refl
-  where
-    by_case : (x : Bool) → bytes_eq a b ≡ x → bytes_eq a b ≡ false
-    by_case true e = absurd (true≢false (sym ((bytes_eq-Decides b a).1 (sym ((bytes_eq-Decides a b).0 e))) ∙ h))
-    by_case false e = e
-
 find_none_push : (name : List ℕ) (rs : List RoleSum) (r : RoleSum) → find (is_role name) rs ≡ None → is_role name r ≡ false → find (is_role name) (rs ++ r ∷ []) ≡ None
 find_none_push name [] r none other = rw other refl
 find_none_push name (g ∷ rs) r none other = by_case (is_role name g) none (λ n. find_none_push name rs r n other)
@@ -80,7 +74,7 @@ pub push_once : (rs : List RoleSum) (r : RoleSum) → RolesOnce rs → find (is_
 push_once [] r once none = (refl, tt)
 push_once (g ∷ rs) r once none =
     let n = head_none r.role g rs none in
-    (find_none_push g.role rs r once.0 (not_same_name r.role g.role n.0), push_once rs r once.1 n.1)
+    (find_none_push g.role rs r once.0 (turned_names r.role g.role n.0), push_once rs r once.1 n.1)
 
 -- one of them holds another amount
 

@@ -2,7 +2,8 @@
 use Rattle.std.proofs.Common.{◌≡◌, Bool, true, false, not, ◌&&◌, ◌||◌, ◌⊎◌, inl, inr, refl}
 use Rattle.std.proofs.lemmas.Bool.{true≢false, and_parts, and_from, or_cases, cases_Bool, both_ways, not-true}
 use Rattle.drf_pick.specs.Orders.{IsPreorder}
-use Rattle.drf_shares.proofs.Lists.{or_left, or_right}
+use Rattle.names_core.proofs.Tests.{or-right}
+use Rattle.std.proofs.lemmas.Bool.{or_left}
 
 -- by the first test, and where that ties by the second
 abbrev pub comes_first : {X : Type 0} → (X → X → Bool) → (X → X → Bool) → X → X → Bool
@@ -34,7 +35,7 @@ first_preorder {X} A B a b = record {
       tied (inr t) = t
 
     by_case : ((A z x ≡ true) ⊎ (A z x ≡ false)) → (not (A z x) || B x z) ≡ true
-    by_case (inl e) = or_right (not (A z x)) (B x z) (b.trans x y z
+    by_case (inl e) = or-right (not (A z x)) (B x z) (b.trans x y z
         (second y x (a.trans y z x ayz e) (and_parts (A x y) (not (A y x) || B x y) h).1)
         (second z y (a.trans z x y e axy) (and_parts (A y z) (not (A z y) || B y z) g).1))
     by_case (inr e) = or_left (not (A z x)) (B x z) (rw e refl)

@@ -9,8 +9,9 @@ use Rattle.cluster_model.specs.Rounds.{Share, share}
 use Rattle.drf_pick.specs.Shares.{Holder, Tally}
 use Rattle.drf_pick.specs.Least.{StandsBy, StandsLeast, client_holder, role_share}
 use Rattle.drf_pick.specs.Laws.{PickIsOne}
-use Rattle.drf_pick.proofs.AllocationRows.{same_is}
 use Rattle.drf_pick.proofs.Picks.{not_name_before, one_name}
+use Rattle.names_core.proofs.IdOrder.{same-is}
+use Rattle.names_core.proofs.Lists.{bytes_eq-refl}
 
 -- where each stands at most at the other the tie is both's
 ties : (totals : List Row) (a b : Share) (tie back : Bool) → StandsBy totals a b tie → StandsBy totals b a back → (tie ≡ true) × (back ≡ true)
@@ -19,13 +20,10 @@ ties totals a b tie back one other = (one.tied other.at_most, other.tied one.at_
 one_id : (a b : Numbered) → not (before b a) ≡ true → not (before a b) ≡ true → a ≡ b
 one_id a b h k =
     let is : same a b ≡ true = grind (arith, nat_tests) in
-    same_is a b is
+    same-is a b is
 
 one_role : (a b : List ℕ) → not (bytes_before b a) ≡ true → not (bytes_before a b) ≡ true → b ≡ a
 one_role a b h k = one_name a b (sym (not_name_before a b) ∙ h) (sym (not_name_before b a) ∙ k)
-
-name_itself : (xs : List ℕ) → bytes_eq xs xs ≡ true
-name_itself xs = (bytes_decides xs xs).1 refl
 
 one_of_two : (t : Tally) (c d : Holder) → StandsLeast t c d → StandsLeast t d c → c.framework ≡ d.framework
 one_of_two t c d one other = by (bytes_eq d.role c.role) refl one (bytes_eq c.role d.role) refl other
@@ -39,9 +37,9 @@ one_of_two t c d one other = by (bytes_eq d.role c.role) refl one (bytes_eq c.ro
     by false e p false h q =
         let both = ties t.totals (role_share t.roles c.role) (role_share t.roles d.role) (not (bytes_before d.role c.role)) (not (bytes_before c.role d.role)) p q in
         let is : d.role ≡ c.role = one_role c.role d.role both.0 both.1 in
-        absurd (let m : true ≡ false = sym (ap (λ r. bytes_eq r c.role) is ∙ name_itself c.role) ∙ e in cc)
-    by true e p false h q = absurd (let m : true ≡ false = sym (ap (λ r. bytes_eq c.role r) ((bytes_decides d.role c.role).0 e) ∙ name_itself c.role) ∙ h in cc)
-    by false e p true h q = absurd (let m : true ≡ false = sym (ap (λ r. bytes_eq d.role r) ((bytes_decides c.role d.role).0 h) ∙ name_itself d.role) ∙ e in cc)
+        absurd (let m : true ≡ false = sym (ap (λ r. bytes_eq r c.role) is ∙ bytes_eq-refl c.role) ∙ e in cc)
+    by true e p false h q = absurd (let m : true ≡ false = sym (ap (λ r. bytes_eq c.role r) ((bytes_decides d.role c.role).0 e) ∙ bytes_eq-refl c.role) ∙ h in cc)
+    by false e p true h q = absurd (let m : true ≡ false = sym (ap (λ r. bytes_eq d.role r) ((bytes_decides c.role d.role).0 h) ∙ bytes_eq-refl d.role) ∙ e in cc)
 
 pub pick_is_one : PickIsOne
 pick_is_one t cs None None p q = refl

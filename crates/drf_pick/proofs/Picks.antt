@@ -21,6 +21,7 @@ use Rattle.drf_pick.specs.Laws.{ArePositive, PicksLeast, Weighed}
 use Rattle.drf_pick.proofs.Orders.{comes_first, first_preorder}
 use Rattle.drf_pick.proofs.Standing.{standing_is_order}
 use Rattle.names_core.proofs.Order.{before_text}
+use Rattle.std.proofs.lemmas.Bool.{not-true}
 
 -- ids
 
@@ -246,12 +247,8 @@ folds t d (c ∷ hs) = by_case (comes_before t c d) (folds t c hs) (folds t d hs
     by_case true h g = h
     by_case false h g = g
 
-not_true : (b : Bool) → not b ≡ true → b ≡ false
-not_true true h = absurd (false≢true h)
-not_true false h = refl
-
 pub picks_least : PicksLeast
 picks_least t [] positive weighed = refl
 picks_least t (h ∷ hs) positive weighed =
     let w = low t (le_order t (positive, weighed)) h hs in
-    rw (folds t h hs) (record { there = w.there; least = λ g i. not_true (comes_before t g (fold (lesser t) h hs)) (w.least g i) })
+    rw (folds t h hs) (record { there = w.there; least = λ g i. not-true (comes_before t g (fold (lesser t) h hs)) (w.least g i) })

@@ -16,10 +16,7 @@ use Rattle.drf_pick.specs.Places.{AreFoundBy, AreRanks, rank_at, rank_in}
 use Rattle.drf_pick.specs.Shares.{RoleSum}
 use Rattle.drf_pick.proofs.FoundRoles.{text_cmp}
 use Rattle.drf_pick.proofs.OnceRoles.{same_place}
-
-not_itself : (xs : List ℕ) → bytes_before xs xs ≡ false
-not_itself [] = refl
-not_itself (x ∷ xs) = rw (not_itself xs) (grind (arith, nat_tests))
+use Rattle.names_core.proofs.IdOrder.{not_itself}
 
 -- one rank is set
 

@@ -8,8 +8,9 @@ use Rattle.quantity.proofs.Amounts.{amount-append}
 use Rattle.drf_pick.specs.Shares.{Holder, RoleSum, Tally, holder_of, is_holder, is_role, role_sum_of, roles_with, with_holder, with_role}
 use Rattle.drf_pick.specs.Allocations.{Allocation, Client, role_rows, rows_to}
 use Rattle.drf_pick.specs.Shown.{ClientsOnce, HoldersShow, NoneOf, RolesShow, Shows, TallyShows, is_known}
-use Rattle.drf_pick.proofs.AllocationRows.{same_back}
-use Rattle.drf_pick.proofs.Shown.{held_of, is_one, known_found, name_is, name_itself, role_held}
+use Rattle.drf_pick.proofs.Shown.{held_of, is_one, known_found, role_held}
+use Rattle.names_core.proofs.IdOrder.{same-comm}
+use Rattle.names_core.proofs.Lists.{bytes_eq-is, bytes_eq-refl}
 
 -- one holder more
 
@@ -33,7 +34,7 @@ apart_with id (d ∷ cs) c none own = (none.0, apart_with id cs c none.1 own)
 
 pub once_with : (cs : List Client) (c : Client) → ClientsOnce cs → NoneOf c.framework cs → ClientsOnce (cs ++ c ∷ [])
 once_with [] c once none = (tt, tt)
-once_with (d ∷ cs) c once none = (apart_with d.framework cs c once.0 (same_back c.framework d.framework ∙ none.0), once_with cs c once.1 none.1)
+once_with (d ∷ cs) c once none = (apart_with d.framework cs c once.0 (same-comm c.framework d.framework ∙ none.0), once_with cs c once.1 none.1)
 
 -- one role more
 
@@ -47,7 +48,7 @@ known_with q role (r ∷ rs) None k = by (is_role role r) k (known_with q role r
     by false n ih = ih n
 
 itself_known : (q : List ℕ) (rs : List RoleSum) → is_known (rs ++ role_sum_of q ∷ []) q ≡ true
-itself_known q [] = ap (λ b. b || false) (name_itself q)
+itself_known q [] = ap (λ b. b || false) (bytes_eq-refl q)
 itself_known q (r ∷ rs) = by (is_role q r) (itself_known q rs)
   where
     by : (b : Bool) → is_known (rs ++ role_sum_of q ∷ []) q ≡ true → (b || is_known (rs ++ role_sum_of q ∷ []) q) ≡ true
@@ -77,13 +78,6 @@ found_with q role (r ∷ rs) None k = by (is_role role r) k (found_with q role r
         → cond b (Some r) (find (is_role role) (rs ++ role_sum_of q ∷ [])) ≡ cond b (Some r) (find (is_role role) rs)
     by true n ih = refl
     by false n ih = ap (λ (o : Option RoleSum). o) (ih n)
-
-pub turned_names : (a b : List ℕ) → bytes_eq b a ≡ false → bytes_eq a b ≡ false
-turned_names a b h = by (bytes_eq a b) refl
-  where
-    by : (x : Bool) → bytes_eq a b ≡ x → bytes_eq a b ≡ false
-    by true e = absurd (let m : true ≡ false = sym (ap (λ (n : List ℕ). bytes_eq n a) (sym (name_is a b e)) ∙ name_itself a) ∙ h in cc)
-    by false e = e
 
 pub held_with : (q role : List ℕ) (rs : List RoleSum) (o : Option RoleSum) → is_known rs role ≡ true → role_held (roles_with q rs o) role ≡ role_held rs role
 held_with q role rs (Some r) k = refl
@@ -124,7 +118,7 @@ no_rows name role gs rs [] k n = refl
 no_rows name role gs rs (c ∷ cs) k n = by (bytes_eq c.role role) refl (no_rows name role gs rs cs k.1 n)
   where
     by : (b : Bool) → bytes_eq c.role role ≡ b → amount name (role_rows cs role gs) ≡ 0 → amount name (cond b (rows_to c.framework gs) [] ++ role_rows cs role gs) ≡ 0
-    by true e ih = absurd (let m : true ≡ false = sym k.0 ∙ ap (is_known rs) (name_is c.role role e) ∙ n in cc)
+    by true e ih = absurd (let m : true ≡ false = sym k.0 ∙ ap (is_known rs) (bytes_eq-is c.role role e) ∙ n in cc)
     by false e ih = ih
 
 module _ (gs : List Allocation) (c : Client) (cs : List Client) (t : Tally) (none : (name : List ℕ) → amount name (rows_to c.framework gs) ≡ 0) (s : TallyShows gs cs t) where

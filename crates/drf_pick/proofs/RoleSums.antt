@@ -16,8 +16,9 @@ use Rattle.drf_pick.proofs.Once.{once_changed}
 use Rattle.drf_pick.proofs.UpTo.{changed_up_to}
 use Rattle.drf_pick.proofs.Less.{less_held}
 use Rattle.drf_pick.proofs.Places.{changed_so, unchanged}
-use Rattle.drf_pick.proofs.Registering.{found_with, held_with, known_with, new_held, own_known, turned_names}
-use Rattle.drf_pick.proofs.Shown.{changed_known, held_of, is_one, known_found, more_held, name_is, other_found, other_held, own_found, role_held}
+use Rattle.drf_pick.proofs.Registering.{found_with, held_with, known_with, new_held, own_known}
+use Rattle.drf_pick.proofs.Shown.{changed_known, held_of, is_one, known_found, more_held, other_found, other_held, own_found, role_held}
+use Rattle.names_core.proofs.Lists.{bytes_eq-is, turned_names}
 
 -- what one framework has of what a role holds
 abbrev own : List ℕ → List ℕ → Holder → ℕ
@@ -216,7 +217,7 @@ raised_held q role name rows rs known = by (bytes_eq q role) refl
   where
     by : (b : Bool) → bytes_eq q role ≡ b → amount name (role_held (at_first (is_role q) (role_holding rows) rs) role) ≡ amount name (role_held rs role) + cond b (amount name rows) 0
     by true e =
-        let is : q ≡ role = name_is q role e in
+        let is : q ≡ role = bytes_eq-is q role e in
         subst (λ r. amount name (role_held (at_first (is_role q) (role_holding rows) rs) r) ≡ amount name (role_held rs r) + amount name rows) is
         (ap (amount name) (more_held q rows rs known) ∙ sums_add_up (role_held rs q) rows name)
     by false e = ap (amount name) (other_held q role rows rs e) ∙ omega arith
@@ -275,7 +276,7 @@ lowered_held q role name rows rs known sum = by (bytes_eq q role) refl
   where
     by : (b : Bool) → bytes_eq q role ≡ b → amount name (role_held (at_first (is_role q) (role_returning rows) rs) role) ≡ amount name (role_held rs role) - cond b (amount name rows) 0
     by true e =
-        let is : q ≡ role = name_is q role e in
+        let is : q ≡ role = bytes_eq-is q role e in
         subst (λ r. amount name (role_held (at_first (is_role q) (role_returning rows) rs) r) ≡ amount name (role_held rs r) - amount name rows) is (less_held q rows rs known sum name)
     by false e = ap (λ o. amount name (held_of o)) (other_found (role_returning rows) (λ r. refl) q role rs e) ∙ omega arith
 
@@ -337,8 +338,8 @@ moved_sums f role hs rs h found sum sums = by (bytes_eq h.role role) refl
 
     by : (b : Bool) → bytes_eq h.role role ≡ b → AreSums (at_first (is_holder f) (of_role role) hs) (cond b rs ps)
     by true e = record {
-      known = known_changed f (of_role role) rs rs (λ k is. is) (λ k is. subst (λ q. is_known rs q ≡ true) (name_is h.role role e) known) hs sums.known;
-      held = λ q name. omega (arith, sums.held q name, held_changed f (of_role role) name q hs h found, ap (λ (r : List ℕ). cond (bytes_eq r q) (amount name h.held) 0) (name_is h.role role e));
+      known = known_changed f (of_role role) rs rs (λ k is. is) (λ k is. subst (λ q. is_known rs q ≡ true) (bytes_eq-is h.role role e) known) hs sums.known;
+      held = λ q name. omega (arith, sums.held q name, held_changed f (of_role role) name q hs h found, ap (λ (r : List ℕ). cond (bytes_eq r q) (amount name h.held) 0) (bytes_eq-is h.role role e));
       within = λ name. omega (arith, sums.within name, all_changed f (of_role role) name hs h found);
     }
     by false e = record {
@@ -382,7 +383,7 @@ weighed_sums role weight hs rs sums = record {
     same q = by (bytes_eq role q) refl
       where
         by : (b : Bool) → bytes_eq role q ≡ b → role_held qs q ≡ role_held first q
-        by true e = subst (λ r. role_held qs r ≡ role_held first r) (name_is role q e) (ap held_of (own_found (weighing weight) (λ r. refl) role first) ∙ keeps (find (is_role role) first))
+        by true e = subst (λ r. role_held qs r ≡ role_held first r) (bytes_eq-is role q e) (ap held_of (own_found (weighing weight) (λ r. refl) role first) ∙ keeps (find (is_role role) first))
         by false e = ap held_of (other_found (weighing weight) (λ r. refl) role q first e)
 
 -- a step that may fail and then changes nothing

@@ -13,13 +13,9 @@ use Rattle.drf_pick.specs.Allocations.{Client, Allocation, allocated, role_rows,
 use Rattle.names_core.specs.Weights.{RoleWeight}
 use Rattle.drf_pick.specs.Shown.{ClientsOnce, HoldersShow, NoneOf, RolesShow, Shows, TallyShows, WeightsShow, is_known}
 use Rattle.drf_pick.proofs.KeptShares.{found_changed}
-use Rattle.drf_pick.proofs.AllocationRows.{none_of_same, part, role-append, role-one, role_part, same_back, to-more}
-
-pub name_itself : (xs : List ℕ) → bytes_eq xs xs ≡ true
-name_itself xs = (bytes_decides xs xs).1 refl
-
-pub name_is : (xs ys : List ℕ) → bytes_eq xs ys ≡ true → xs ≡ ys
-name_is xs ys e = (bytes_decides xs ys).0 e
+use Rattle.drf_pick.proofs.AllocationRows.{none_of_same, part, role-append, role-one, role_part, to-more}
+use Rattle.names_core.proofs.IdOrder.{same-comm}
+use Rattle.names_core.proofs.Lists.{bytes_eq-is}
 
 -- a role is changed, and keeps its name
 
@@ -38,7 +34,7 @@ module _ (change : RoleSum → RoleSum) (keeps : (r : RoleSum) → (change r).ro
   other_found q role (r ∷ rs) h = by (is_role q r) refl (other_found q role rs h)
     where
       other : is_role q r ≡ true → is_role role r ≡ false
-      other e = ap (λ n. bytes_eq n role) (name_is r.role q e) ∙ h
+      other e = ap (λ n. bytes_eq n role) (bytes_eq-is r.role q e) ∙ h
 
       by : (b : Bool) → is_role q r ≡ b → find (is_role role) (at_first (is_role q) change rs) ≡ find (is_role role) rs
           → find (is_role role) (cond b (change r ∷ rs) (r ∷ at_first (is_role q) change rs)) ≡ find (is_role role) (r ∷ rs)
@@ -110,14 +106,14 @@ others_show gs g (h ∷ hs) (f ∷ fs) none s = ((s.0.0, s.0.1, λ name. s.0.2 n
   where
     stays : (name : List ℕ) → amount name (rows_to f.framework gs) ≡ amount name (rows_to f.framework (gs ++ g ∷ []))
     stays name =
-        let nothing : part g name (same g.framework f.framework) ≡ 0 = ap (part g name) (same_back g.framework f.framework ∙ none.0) in
+        let nothing : part g name (same g.framework f.framework) ≡ 0 = ap (part g name) (same-comm g.framework f.framework ∙ none.0) in
         omega (arith, to-more name f.framework gs g, nothing)
 
 more_shown : (gs : List Allocation) (g : Allocation) (h : Holder) (f : Client) → same f.framework g.framework ≡ true → Shows gs h f → Shows (gs ++ g ∷ []) (holding g.resources h) f
 more_shown gs g h f is s = (s.0, s.1, λ name. sums_add_up h.held g.resources name ∙ same_sum name)
   where
     whole : (name : List ℕ) → part g name (same g.framework f.framework) ≡ amount name g.resources
-    whole name = ap (part g name) (same_back g.framework f.framework ∙ is)
+    whole name = ap (part g name) (same-comm g.framework f.framework ∙ is)
 
     same_sum : (name : List ℕ) → amount name h.held + amount name g.resources ≡ amount name (rows_to f.framework (gs ++ g ∷ []))
     same_sum name = omega (arith, s.2 name, to-more name f.framework gs g, whole name)
@@ -154,7 +150,7 @@ roles_more gs g fs rs once (Some h) (Some f) found a s role known name = by (byt
 
     by : (b : Bool) → bytes_eq h.role role ≡ b → amount name (role_held (at_first (is_role h.role) (role_holding g.resources) rs) role) ≡ amount name (role_rows fs role (gs ++ g ∷ []))
     by true e =
-        let is : h.role ≡ role = name_is h.role role e in
+        let is : h.role ≡ role = bytes_eq-is h.role role e in
         let whole = λ (n : List ℕ). ap (part g n) e in
         let sum = sums_add_up (role_held rs role) g.resources name in
         let now : role_held (at_first (is_role h.role) (role_holding g.resources) rs) role ≡ plus_rows (role_held rs role) g.resources = ap (λ q. role_held (at_first (is_role q) (role_holding g.resources) rs) role) is ∙ more_held role g.resources rs was in
@@ -192,6 +188,6 @@ weights_stay ws g (Some h) rs w = λ role k. by role (bytes_eq h.role role) refl
 
     by : (role : List ℕ) (b : Bool) → bytes_eq h.role role ≡ b → (role_share (given_roles g.resources (Some h) rs) role).weight ≡ (role_share rs role).weight
     by role true e =
-        let is : h.role ≡ role = name_is h.role role e in
+        let is : h.role ≡ role = bytes_eq-is h.role role e in
         subst (λ q. (role_share (given_roles g.resources (Some h) rs) q).weight ≡ (role_share rs q).weight) is (ap (λ (o : Option RoleSum). (share_of_sum o).weight) (own_found (role_holding g.resources) (λ r. refl) h.role rs) ∙ own (find (is_role h.role) rs))
     by role false e = ap (λ (o : Option RoleSum). (share_of_sum o).weight) (other_found (role_holding g.resources) (λ r. refl) h.role role rs e)

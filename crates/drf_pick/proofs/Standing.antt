@@ -11,6 +11,7 @@ use Rattle.drf_pick.specs.Orders.{Among}
 use Rattle.drf_pick.specs.Laws.{Amounts, ArePositive, StandsAtMost, TestIsRelation, AmountsDecide, StandingIsOrder, amounts_of}
 use Rattle.drf_shares.proofs.Dominating.{cross}
 use Rattle.drf_shares.proofs.Lists.{all_at, all_from, all_not, any_from, any_at, any_not}
+use Rattle.names_core.proofs.Tests.{same_tests}
 
 some_more : (t w : ℕ) → 0 < t → 0 < w → 0 < t * w
 some_more zero w h k = absurd (omega arith)
@@ -70,11 +71,6 @@ from_relation totals a b positive h = all_from (met totals a b) totals here
 
 pub test_is_relation : TestIsRelation
 test_is_relation totals a b positive = (is_relation totals a b positive, from_relation totals a b positive)
-
-same_tests : (x y : Bool) → (x ≡ true → y ≡ true) → (y ≡ true → x ≡ true) → x ≡ y
-same_tests true y f g = sym (f refl)
-same_tests false true f g = g refl
-same_tests false false f g = refl
 
 -- the same amounts
 abbrev SameAmount : Amounts → Amounts → Type 0

@@ -5,6 +5,7 @@ use Rattle.std.proofs.lemmas.Bool.Decides.{nat_tests}
 use Rattle.names_core.specs.Ids.{Numbered, before, same}
 use Rattle.quantity.specs.declared.rows.Row.{Row}
 use Rattle.drf_pick.specs.Shares.{AreUpTo, Holder, holder_with, is_behind, is_holder, at_first}
+use Rattle.names_core.proofs.IdOrder.{before-irrefl}
 
 other : (last f g : Numbered) → before last f ≡ true → before last g ≡ false → same g f ≡ false
 other last f g h k = grind (arith, nat_tests)
@@ -31,15 +32,12 @@ all_onward : (last f : Numbered) (hs : List Holder) → before last f ≡ true �
 all_onward last f [] behind all = tt
 all_onward last f (h ∷ hs) behind all = (onward last f h.framework behind all.0, all_onward last f hs behind all.1)
 
-itself : (f : Numbered) → before f f ≡ false
-itself f = grind (arith, nat_tests)
-
 pub push_first : (f : Numbered) (hs : List Holder) (role : List ℕ) (held : List Row) → AreUpTo None hs → AreUpTo (Some f) (hs ++ holder_with f role held ∷ [])
-push_first f [] role held up = (itself f, tt)
+push_first f [] role held up = (before-irrefl f, tt)
 push_first f (h ∷ hs) role held up = absurd (cc)
 
 pub push_behind : (last f : Numbered) (hs : List Holder) (role : List ℕ) (held : List Row) → before last f ≡ true → AreUpTo (Some last) hs → AreUpTo (Some f) (hs ++ holder_with f role held ∷ [])
-push_behind last f hs role held behind up = all_push _ hs (holder_with f role held) (all_onward last f hs behind up) (itself f)
+push_behind last f hs role held behind up = all_push _ hs (holder_with f role held) (all_onward last f hs behind up) (before-irrefl f)
 
 pub push_within : (last f : Numbered) (hs : List Holder) (role : List ℕ) (held : List Row) → before last f ≡ false → AreUpTo (Some last) hs → AreUpTo (Some last) (hs ++ holder_with f role held ∷ [])
 push_within last f hs role held within up = all_push _ hs (holder_with f role held) up within

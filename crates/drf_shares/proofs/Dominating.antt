@@ -14,6 +14,7 @@ use Rattle.cluster_model.specs.Rounds.{Share, is_at_most_at, stands_at_most_at}
 use Rattle.drf_shares.specs.Dominant.{IsDominant, Part, is_at_most, nothing}
 use Rattle.drf_shares.specs.Lists.{Among}
 use Rattle.drf_shares.proofs.Lists.{all_at, all_from, among_first, among_last, among_more, any_at, any_from, each_at}
+use Rattle.names_core.proofs.Tests.{same_tests}
 
 -- two fractions that are one after the other
 pub cross : (a b e ti tj tk : ℕ) → 0 < tj → a * tj ≤ b * ti → b * tk ≤ e * tj → a * tk ≤ e * ti
@@ -126,11 +127,6 @@ then_stands totals a b f g ordered d e h = all_from (λ i. list_any (λ j. is_at
 
     here : (i : Row) → Among i totals → list_any (λ j. is_at_most_at totals a b i j) totals ≡ true
     here i at = by_case i at e.one_of
-
-same_tests : (x y : Bool) → (x ≡ true → y ≡ true) → (y ≡ true → x ≡ true) → x ≡ y
-same_tests true y f g = sym (f refl)
-same_tests false true f g = g refl
-same_tests false false f g = refl
 
 pub decides : (totals : List Row) (a b : Share) (f g : Part) → IsStrictlySortedBy name_order totals → AllByRecursion (λ r. 0 < r.amount) totals → IsDominant totals a.held f → IsDominant totals b.held g
     → is_at_most f a.weight g b.weight ≡ stands_at_most_at totals a b

@@ -4,6 +4,8 @@ use Rattle.std.specs.List.{list_any, list_all}
 use Rattle.std.proofs.lemmas.Bool.{true≢false, false≢true, and_parts, and_from, and_cases, or_cases}
 use Rattle.std.specs.List.{AllByRecursion}
 use Rattle.drf_shares.specs.Lists.{Among}
+use Rattle.names_core.proofs.Tests.{or-right}
+use Rattle.std.proofs.lemmas.Bool.{or_left, or_parts}
 
 pub all_at : {X : Type 0} (p : X → Bool) (xs : List X) (x : X) → list_all p xs ≡ true → Among x xs → p x ≡ true
 all_at p [] x h i = absurd i
@@ -21,22 +23,10 @@ all_not {X} p (y ∷ ys) h = by_case (λ e. all_not p ys e) (and_cases (p y) (li
   by_case more (inl e) = (y, inl refl, e)
   by_case more (inr e) = let w = more e in (w.0, inr w.1, w.2)
 
-pub or_left : (x y : Bool) → x ≡ true → (x || y) ≡ true
-or_left true y e = refl
-or_left false y e = absurd (false≢true e)
-
-pub or_right : (x y : Bool) → y ≡ true → (x || y) ≡ true
-or_right true y e = refl
-or_right false y e = e
-
-pub or_parts : (x y : Bool) → (x || y) ≡ false → (x ≡ false) × (y ≡ false)
-or_parts true y h = absurd (true≢false h)
-or_parts false y h = (refl, h)
-
 pub any_from : {X : Type 0} (p : X → Bool) (xs : List X) (x : X) → Among x xs → p x ≡ true → list_any p xs ≡ true
 any_from p [] x i e = absurd i
 any_from p (y ∷ ys) x (inl i) e = or_left (p y) (list_any p ys) (ap p (sym i) ∙ e)
-any_from p (y ∷ ys) x (inr i) e = or_right (p y) (list_any p ys) (any_from p ys x i e)
+any_from p (y ∷ ys) x (inr i) e = or-right (p y) (list_any p ys) (any_from p ys x i e)
 
 pub any_at : {X : Type 0} (p : X → Bool) (xs : List X) → list_any p xs ≡ true → (x : X) × Among x xs × (p x ≡ true)
 any_at p [] h = absurd (false≢true h)

@@ -21,6 +21,8 @@ use Rattle.event_json.proofs.Compact.{read_compact}
 use Rattle.event_json.proofs.Rows.{rows_again}
 use Rattle.event_json.proofs.RecordEach.{each_again, values_of_items}
 use Rattle.event_json.proofs.Data.{few_updates, record_plain, record_depth, task_plain, task_depth, plain_amounts, rows_depth}
+use Rattle.names_core.proofs.Tests.{or-right}
+use Rattle.std.proofs.lemmas.Bool.{or_left}
 
 state_again : (s : TaskState) → state_of (state_text s) ≡ Some s
 unfolding state_of state_text
@@ -72,19 +74,12 @@ read_written d text is = by is.form
     by (inl form) = read_again 2 d text (lit< tt) is.durable form
     by (inr form) = read_again 1 d text (lit< tt) is.durable form
 
-or_else : (a b : Bool) → b ≡ true → (a || b) ≡ true
-or_else true b e = refl
-or_else false b e = e
-
-or_first : (a b : Bool) → a ≡ true → (a || b) ≡ true
-or_first a b e = rw e refl
-
 is_form : (d : RecordParts) (text : List ℕ) → IsWritten d text → is_form_of d text ≡ true
 is_form d text is = by is.form
   where
     by : (text ≡ record_form d) ⊎ (text ≡ first_form d) → is_form_of d text ≡ true
-    by (inl form) = or_first (bytes_eq (record_form d) text) (bytes_eq (first_form d) text) ((bytes_eq-Decides (record_form d) text).1 (sym form))
-    by (inr form) = or_else (bytes_eq (record_form d) text) (bytes_eq (first_form d) text) ((bytes_eq-Decides (first_form d) text).1 (sym form))
+    by (inl form) = or_left (bytes_eq (record_form d) text) (bytes_eq (first_form d) text) ((bytes_eq-Decides (record_form d) text).1 (sym form))
+    by (inr form) = or-right (bytes_eq (record_form d) text) (bytes_eq (first_form d) text) ((bytes_eq-Decides (first_form d) text).1 (sym form))
 
 -- a text that is a record's written form tells which of the two it is
 pub form_is : (d : RecordParts) (text : List ℕ) → is_form_of d text ≡ true → (text ≡ record_form d) ⊎ (text ≡ first_form d)

@@ -12,10 +12,7 @@ use Rattle.names_core.specs.Updates.{update_text}
 use Rattle.event_json.specs.Offers.{row_data, offer_data}
 use Rattle.event_json.specs.Statuses.{status_object}
 use Rattle.event_json.specs.Events.{event_data}
-
-none_of : {X : Type 0} (f : X → Data) → ((x : X) → has_float (f x) ≡ false) → (xs : List X) → items_have_float (items_of (map f xs)) ≡ false
-none_of f h [] = refl
-none_of f h (x ∷ xs) = rw (h x) (none_of f h xs)
+use Rattle.event_json.proofs.Shared.{none_of}
 
 row : (r : Row) → has_float (row_data r) ≡ false
 row r = refl

@@ -13,14 +13,7 @@ use Rattle.messages.specs.declared.mail.AgentMail.{AgentMail}
 use Rattle.messages.specs.declared.mail.AgentMail.TheVariants.{Report, Applied, Update}
 use Rattle.event_json.specs.Texts.{row_members}
 use Rattle.event_json.specs.Mails.{offer_data, command_data, master_mail_data, booked_data, agent_mail_data}
-
-none_of : {X : Type 0} (f : X → Data) → ((x : X) → has_float (f x) ≡ false) → (xs : List X) → items_have_float (items_of (map f xs)) ≡ false
-none_of f h [] = refl
-none_of f h (x ∷ xs) = rw (h x) (none_of f h xs)
-
-rows : (rs : List Row) → members_have_float (row_members rs) ≡ false
-rows [] = refl
-rows (r ∷ rs) = rows rs
+use Rattle.event_json.proofs.Shared.{none_of, rows}
 
 command : (c : Command) → has_float (command_data c) ≡ false
 unfolding command_data

@@ -46,16 +46,6 @@ pub values_of_items : (ds : List Data) → values_of (items_of ds) ≡ ds
 values_of_items [] = refl
 values_of_items (d ∷ ds) = ap (λ (t : List Data). d ∷ t) (values_of_items ds)
 
-all_push : {X : Type 0} (P : X → Type 0) (xs : List X) (x : X) → AllByRecursion P xs → P x → AllByRecursion P (xs ++ x ∷ [])
-all_push P [] x h p = (p, tt)
-all_push P (y ∷ xs) x h p = (h.0, all_push P xs x h.1 p)
-
--- one element more has P
-pub all_more : {X : Type 0} (P : X → Type 0) (xs : List X) (i : ℕ) (x : X) → i < length xs → x ≡ get_or xs i x → AllByRecursion P (take i xs) → P x → AllByRecursion P (take (i + 1) xs)
-all_more P xs i x lt is h p =
-    let more : take (i + 1) xs ≡ take i xs ++ x ∷ [] = take_more xs i x lt ∙ ap (λ w. take i xs ++ w ∷ []) (sym is) in
-    subst (AllByRecursion P) (sym more) (all_push P (take i xs) x h p)
-
 -- what is written of one element more
 pub written_more : {X : Type 0} (g : X → Data) (xs : List X) (i : ℕ) (d x : X) (vs ws : List Value) (v : Value) → i < length xs → x ≡ get_or xs i d
     → map view vs ≡ map g (take i xs) → view v ≡ g x → ws ≡ vs ++ v ∷ [] → map view ws ≡ map g (take (i + 1) xs)
@@ -64,14 +54,6 @@ written_more g xs i d x vs ws v lt is so_far one pushed =
     let left = ap (map view) pushed ∙ map-append view vs (v ∷ []) in
     let right = ap (map g) more ∙ map-append g (take i xs) (x ∷ []) in
     left ∙ (ap (λ (ds : List Data). ds ++ view v ∷ []) so_far ∙ (ap (λ (d : Data). map g (take i xs) ++ d ∷ []) one ∙ sym right))
-
--- all are written
-pub written_all : {X : Type 0} (g : X → Data) (xs : List X) (i : ℕ) (vs : List Value) → length xs ≤ i → map view vs ≡ map g (take i xs) → map view vs ≡ map g xs
-written_all g xs i vs le so_far = so_far ∙ ap (map g) (take_all i xs le)
-
--- all have P
-pub all_of_take : {X : Type 0} (P : X → Type 0) (xs : List X) (i : ℕ) → length xs ≤ i → AllByRecursion P (take i xs) → AllByRecursion P xs
-all_of_take P xs i le h = subst (AllByRecursion P) (take_all i xs le) h
 
 pub view-String : (s : String Global) → view (declared.String s) ≡ string (string_bytes s)
 view-String s = search (rules, declared.the_lemmas)

@@ -9,14 +9,7 @@ use Rattle.quantity.specs.declared.rows.Row.{Row}
 use Rattle.messages.specs.declared.record.RecordParts.{RecordParts}
 use Rattle.messages.specs.declared.record.RecordedTask.{RecordedTask}
 use Rattle.event_json.specs.Texts.{row_members, task_data, record_data}
-
-none_of : {X : Type 0} (f : X → Data) → ((x : X) → has_float (f x) ≡ false) → (xs : List X) → items_have_float (items_of (map f xs)) ≡ false
-none_of f h [] = refl
-none_of f h (x ∷ xs) = rw (h x) (none_of f h xs)
-
-pub rows : (rs : List Row) → members_have_float (row_members rs) ≡ false
-rows [] = refl
-rows (r ∷ rs) = rows rs
+use Rattle.event_json.proofs.Shared.{none_of, rows}
 
 pub task : (t : RecordedTask) → has_float (task_data t) ≡ false
 unfolding task_data

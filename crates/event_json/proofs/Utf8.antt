@@ -11,10 +11,7 @@ use Rattle.serde_json.specs.Written.{comma_if, compact_text, items_text, members
 use Rattle.messages.specs.declared.record.RecordParts.{RecordParts}
 use Rattle.messages.specs.declared.record.RecordedTask.{RecordedTask}
 use Rattle.event_json.specs.Texts.{whole, amounts, list_data, task_data, task_form, total_form, record_data, record_form}
-
-comma : (later : Bool) → IsUtf8 (comma_if later)
-comma true = IsUtf8-are_ascii (44 ∷ []) refl
-comma false = IsUtf8-are_ascii [] refl
+use Rattle.event_json.proofs.Shared.{comma}
 
 member_utf8 : (later : Bool) (k : List ℕ) (e : Data) (ms : Members) → IsUtf8 k → IsUtf8 (compact_text e) → IsUtf8 (members_text true ms) → IsUtf8 (members_text later (member k e ms))
 member_utf8 later k e ms key value more =

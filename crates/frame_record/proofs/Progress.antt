@@ -10,6 +10,7 @@ use Rattle.frame_record.specs.Written.{appends_more, appends_nothing, front_afte
 use Rattle.frame_record.specs.Texts.{Reads, all_lines, kept, last_line, lines_of, longest}
 use Rattle.frame_record.specs.Answers.{after_all, answer, answered_texts}
 use Rattle.frame_record.proofs.Telling.{after-append, after_first, after_none, answered_text-append, told_first, told_none}
+use Rattle.frame_record.proofs.Shared.{kept_none}
 
 pub on_ok : {A E : Type 0} (r : Result A E) (P Q : Type 0) → (P → Q) → OnOk r P → OnOk r Q
 on_ok (Ok x) P Q f h = f h
@@ -25,10 +26,6 @@ first_kept n b bs = rw (add-one n) refl
 kept_some : (b : ℕ) (bs : List ℕ) → last_line (kept (b ∷ bs)) ≡ kept (b ∷ bs) ∷ []
 unfolding kept
 kept_some b bs = first_kept longest b bs
-
-kept_none : kept [] ≡ []
-unfolding kept
-kept_none = refl
 
 module _ {S : Type 0} (answered_text : S → List ℕ → List ℕ) (after : S → List ℕ → S) where
   -- what is kept of a line is enough

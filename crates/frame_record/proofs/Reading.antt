@@ -5,14 +5,11 @@ use Rattle.std.proofs.lemmas.Bool.Decides.{eqb_tells, nat_tests}
 use Rattle.std.proofs.lemmas.List.{append-nil, length-append, length-take, map-append, take-append-le, take_all, take_more}
 use Rattle.std.proofs.lemmas.List.Sums.{fold-append}
 use Rattle.frame_record.specs.Texts.{Lines, Reads, bodies, kept, lines_of, longest, no_lines, with_byte}
-
-kept_nothing : kept [] ≡ []
-unfolding kept
-kept_nothing = refl
+use Rattle.frame_record.proofs.Shared.{kept_none}
 
 pub nothing_read : Reads [] [] []
 unfolding lines_of
-nothing_read = (refl, sym kept_nothing)
+nothing_read = (refl, sym kept_none)
 
 lines_more : (text : List ℕ) (b : ℕ) → lines_of (text ++ b ∷ []) ≡ with_byte (lines_of text) b
 unfolding lines_of
@@ -27,7 +24,7 @@ other_goes_on s b ne = let no : (b == 10) ≡ false = grind (arith, nat_tests) i
 pub line_ended : (text : List ℕ) (lines : List (List ℕ)) (rest : List ℕ) → Reads text lines rest → Reads (text ++ 10 ∷ []) (lines ++ rest ∷ []) []
 line_ended text lines rest h =
     let s = lines_of text in
-    (rw (lines_more text 10, map-append kept s.ended (s.rest ∷ []), h.0, h.1) refl, rw (lines_more text 10) (sym kept_nothing))
+    (rw (lines_more text 10, map-append kept s.ended (s.rest ∷ []), h.0, h.1) refl, rw (lines_more text 10) (sym kept_none))
 
 short_kept : (n : ℕ) (xs : List ℕ) (b : ℕ) → length (take (n + 1) xs) ≤ n → take (n + 1) (xs ++ b ∷ []) ≡ take (n + 1) xs ++ b ∷ []
 short_kept n xs b le =

@@ -15,18 +15,15 @@ use Rattle.frame_record.specs.declared.fault.FrameFault.TheVariants.{BadSize, To
 use Rattle.frame_record.specs.Records.{First, whole, partial, faulty, judged, first, limit, BeginsWith, Splits, Ends, SameEnd, record_text, State, Reads}
 use Rattle.frame_record.specs.Firsts.{stop}
 use Rattle.frame_record.proofs.Firsts.{own, digits_are_digits, digits_in_front, judged_whole}
+use Rattle.std.proofs.lemmas.Bool.{and_parts}
 
 abbrev pub front : List ℕ → List ℕ
 front text = take_while is_ascii_digit text
 
 -- ---- the digits in front, and what follows them
 
-both_true : (a b : Bool) → a && b ≡ true → (a ≡ true) × (b ≡ true)
-both_true true b h = (refl, h)
-both_true false b h = absurd (let bad : ⊥ = cc in bad)
-
 pub digits_step : (d : ℕ) (ds : List ℕ) → all_ascii_digits (d ∷ ds) ≡ true → (is_ascii_digit d ≡ true) × (all_ascii_digits ds ≡ true)
-digits_step d ds h = both_true (is_ascii_digit d) (all_ascii_digits ds) h
+digits_step d ds h = and_parts (is_ascii_digit d) (all_ascii_digits ds) h
 
 pub digits_then : (digits : List ℕ) (b : ℕ) (bs : List ℕ) → all_ascii_digits digits ≡ true → is_ascii_digit b ≡ false → front (digits ++ b ∷ bs) ≡ digits
 digits_then [] b bs only isnt = rw (take_while-cons is_ascii_digit b bs, isnt) refl

@@ -6,16 +6,13 @@ use Rattle.std.proofs.lemmas.List.Sums.{fails_before_first}
 use Rattle.std.proofs.lemmas.List.Splits.{slice_split_first, slice_split_none}
 use Rattle.std.specs.List.{position_or_len, list_any}
 use Rattle.http_head.specs.Heads.{is_comma, is_close, has_close}
-
-pub or_false : (b : Bool) → (b || false) ≡ b
-or_false true = refl
-or_false false = refl
+use Rattle.std.proofs.Math.Bool.{or-false}
 
 -- the last word
 pub one_word : (xs : List ℕ) (n : ℕ) → n ≡ position_or_len is_comma xs → n ≡ length xs → has_close xs ≡ is_close (take n xs)
 one_word xs n at end =
     let none : All (λ x. is_comma x ≡ false) xs = λ k e m. fails_before_first is_comma xs k e (omega arith) in
-    ap (list_any is_close) (slice_split_none is_comma xs none) ∙ or_false (is_close xs) ∙ ap is_close (sym (take_all n xs (omega arith)))
+    ap (list_any is_close) (slice_split_none is_comma xs none) ∙ or-false (is_close xs) ∙ ap is_close (sym (take_all n xs (omega arith)))
 
 -- a word and what follows it
 pub more_words : (xs : List ℕ) (n : ℕ) → n ≡ position_or_len is_comma xs → n < length xs

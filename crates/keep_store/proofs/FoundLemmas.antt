@@ -22,15 +22,13 @@ use Rattle.keep_tables.specs.Tables.{task_shown}
 use Rattle.keep_tables.proofs.QueryLemmas.{has_permuted}
 use Rattle.keep_store.proofs.RiseLemmas.{put_are_tasks, rises}
 use Rattle.keep_store.proofs.LoadLemmas.{row_of_task, same_told, task_of_row}
+use Rattle.names_core.proofs.Options.{same_some}
 
 -- ---- what a row that tells a task has
 
 bind_some : {A B : Type 0} (o : Option A) (f : A → Option B) (b : B) → (o >>= f) ≡ Some b → (a : A) × (o ≡ Some a) × (f a ≡ Some b)
 bind_some None f b h = absurd cc
 bind_some (Some a) f b h = (a, refl, h)
-
-same_some : {A : Type 0} {x y : A} → ◌≡◌ {A = Option A} (Some x) (Some y) → x ≡ y
-same_some e = cc
 
 where_some : {A : Type 0} (test : Bool) (x y : A) → where_true test x ≡ Some y → (test ≡ true) × (x ≡ y)
 where_some true x y h = (refl, same_some h)

@@ -9,15 +9,6 @@ use Rattle.keep_tables.specs.Totals.{total_in_rows}
 use Rattle.keep_store.specs.SavesKept.{head_in_row, own_in_row, total_by, with_total}
 use Rattle.keep_tables.specs.Columns.{number_at}
 
-told_from : (head : Row) (held : List Row) (d : RecordParts) (version : ℕ) (total : List Amount) → own_in_row head ≡ Some d → number_at (column head 4) ≡ Some version → total_by version d.total held ≡ Some total
-    → head_in_row head held ≡ Some (with_total total d)
-unfolding head_in_row
-told_from head held d version total own is by_version = rw (own, is, by_version) refl
-
-pub head_from : (head : Row) (held : List Row) (d : RecordParts) (version : ℕ) (total : List Amount) → own_in_row head ≡ Some d → number_at (column head 4) ≡ Some version → total_by version d.total held ≡ Some total
-    → head_in_row head held ≡ Some (with_total total d)
-head_from = told_from
-
 pub no_own : (head : Row) (held : List Row) → own_in_row head ≡ None → head_in_row head held ≡ None
 unfolding head_in_row
 no_own head held none = rw none refl

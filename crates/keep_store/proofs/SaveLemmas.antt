@@ -35,6 +35,7 @@ use Rattle.keep_store.proofs.RiseLemmas.{rises}
 use Rattle.keep_store.proofs.StepLemmas.{clean_before}
 use Rattle.keep_store.proofs.TaskLemmas.{tells_all}
 use Rattle.keep_tables.proofs.StoreLemmas.{then_on, then_err}
+use Rattle.agent_core.proofs.Shared.{keys_of}
 
 -- ---- tasks
 
@@ -158,13 +159,6 @@ record_kept seen head d x z rise one_record one_head knows knows_head h =
     ∙ ap (λ (o : Option (List RecordedTask)). Some (text_of (o >>= λ read_back. head_in_row (head_of row) (map amount_shown (z 5)) >>= λ e. Some (with_tasks read_back e)))) all
     ∙ ap (λ (o : Option RecordParts). Some (text_of (o >>= λ e. Some (with_tasks d.tasks e)))) told_head in
     rw (body, h.runs) refl
-
--- the launch keys of a record rise
-pub keys_of : (d : RecordParts) → is_record d ≡ true → keys_rise d.tasks ≡ true
-keys_of d is =
-    let a = and_parts (keys_rise d.tasks && none_is_done d.tasks && has_begun d) (covers d.total (task_rows (live_tasks d.tasks))) is in
-    let b = and_parts (keys_rise d.tasks && none_is_done d.tasks) (has_begun d) a.0 in
-    (and_parts (keys_rise d.tasks) (none_is_done d.tasks) b.0).0
 
 -- the store is ready then
 pub record_ready : (seen : Option (List RecordedTask)) (head : Option RecordParts) (d : RecordParts) (old new : State) → IsReady old → KnowsHead head old.now.trees → IsCommitted keeper_schema (HasRecord seen head d) old new → IsReady new

@@ -22,12 +22,9 @@ use Rattle.keep_tables.proofs.ColumnLemmas.{number_some, text_plain}
 use Rattle.keep_tables.proofs.TotalLemmas.{rows_told}
 use Rattle.keep_store.specs.SavesKept.{IsHead, body_in, head_in_row, own_in_row, tasks_in, text_of, with_tasks}
 use Rattle.event_json.specs.Reading.{◌>>=◌}
+use Rattle.event_json.proofs.Shared.{comma}
 
 -- ---- a total's text is UTF-8 where its names are
-
-comma : (later : Bool) → IsUtf8 (comma_if later)
-comma true = IsUtf8-are_ascii (44 ∷ []) refl
-comma false = IsUtf8-are_ascii [] refl
 
 amount_utf8 : (n : ℕ) → n ≤ 2 ^ 40 → IsUtf8 (compact_text (whole n))
 amount_utf8 n small = IsUtf8-from_ascii (decimal n) (IsAscii-decimal n (omega (arith, small)))

@@ -14,6 +14,8 @@ use Rattle.agent_core.specs.Records.{is_behind, keys_rise, rise_behind}
 use Rattle.messages.specs.declared.record.RecordedTask.{RecordedTask}
 use Rattle.keep_tables.specs.Tables.{Cuts, IsWriting, WritesOn, place_of}
 use Rattle.keep_store.specs.SavesKept.{Adds, ArePut, HasNoTask, HasTasks, IsPut, Rise}
+use Rattle.names_core.proofs.IdOrder.{before_both}
+use Rattle.names_core.proofs.Options.{same_some}
 
 abbrev place : RecordedTask → ℕ
 place t = place_of t.job.key
@@ -94,9 +96,6 @@ gone_apart (y ∷ ts) (suc i) x t within is up (inl same) = λ e.
     let equal : place t ≡ place y = ap place same in
     absurd (omega (arith, above, equal, e))
 gone_apart (y ∷ ts) (suc i) x t within is up (inr at) = gone_apart ts i x t (omega (arith, within)) is up.1 at
-
-same_some : {A : Type 0} {x y : A} → ◌≡◌ {A = Option A} (Some x) (Some y) → x ≡ y
-same_some e = cc
 
 -- a launch key is no place 0
 placed : (t : RecordedTask) → IsPut t → 0 < place t
@@ -209,10 +208,6 @@ module _ {X : Type 0} where
 
   pub known_among : (P : X → Type 0) (ts us : List X) (x : X) → AllByRecursion P ts → P x → AllByRecursion (λ t. (t ≡ x) ⊎ Has ts t) us → AllByRecursion P us
   known_among P ts us x all it known = all_from P us (λ t at. elim (all_has (λ t. (t ≡ x) ⊎ Has ts t) us t known at) [ inl same ↦ subst P (sym same) it | inr was ↦ all_has P ts t all was ])
-
--- tasks whose launch keys rise have no key twice
-before_both : (a b c : Numbered) → before a b ≡ true → before b c ≡ true → before a c ≡ true
-before_both a b c h k = grind (arith, nat_tests)
 
 before_self : (a b : Numbered) → a ≡ b → before a b ≡ true → ⊥
 before_self a b same h = let it : before b b ≡ true = subst (λ (key : Numbered). before key b ≡ true) same h in grind (arith, nat_tests, it)

@@ -10,6 +10,8 @@ use Rattle.messages.specs.declared.record.RecordedTask.{RecordedTask}
 use Rattle.event_json.specs.Reading.{◌>>=◌}
 use Rattle.keep_tables.specs.Tables.{place_of}
 use Rattle.keep_store.specs.SavesKept.{read_back, put_task, tasks_in, Rise}
+use Rattle.names_core.proofs.Tests.{or-right}
+use Rattle.std.proofs.lemmas.Bool.{or_left}
 
 abbrev place : RecordedTask → ℕ
 place t = place_of t.job.key
@@ -60,14 +62,6 @@ puts t p (x ∷ xs) up (inr at) =
       | false ↦ rw apart later
     ]
 
-left_or : (a b : Bool) → a ≡ true → (a || b) ≡ true
-left_or true b h = refl
-left_or false b h = cc
-
-right_or : (a b : Bool) → b ≡ true → (a || b) ≡ true
-right_or true b h = refl
-right_or false b h = h
-
 none_kept : (xs : List RecordedTask) → filter (λ x. false) xs ≡ []
 none_kept [] = refl
 none_kept (x ∷ xs) = none_kept xs
@@ -98,8 +92,8 @@ module _ (ts : List RecordedTask) (up : Rise ts) where
             ∙ ap (λ (o : Option (List RecordedTask)). o >>= λ tasks. Some (put_task it.0 tasks)) more.sorted
             ∙ ap (λ (all : List RecordedTask). Some all) (puts it.0 (named more.us) ts up it.1);
         has = λ row t at is. elim at [
-          | inl same ↦ right_or (named more.us t) (place t == place it.0) (subst (λ s. (place s == place it.0) ≡ true) (same_some (sym it.2 ∙ ap read_back (sym same) ∙ is)) own)
-          | inr later ↦ left_or (named more.us t) (place t == place it.0) (more.has row t later is)
+          | inl same ↦ or-right (named more.us t) (place t == place it.0) (subst (λ s. (place s == place it.0) ≡ true) (same_some (sym it.2 ∙ ap read_back (sym same) ∙ is)) own)
+          | inr later ↦ or_left (named more.us t) (place t == place it.0) (more.has row t later is)
         ];
       }
 

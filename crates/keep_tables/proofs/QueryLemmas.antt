@@ -28,6 +28,7 @@ use Rattle.sqlite_rules.proofs.ProbeLemmas.{has_mapped, mapped_has}
 use Rattle.sqlite_rules.proofs.TableLemmas.{without_all_has}
 use Rattle.keep_tables.specs.Tables.{Cuts, IsLone, SparesOthers}
 use Rattle.keep_tables.proofs.TextLemmas.{query_of, is_place}
+use Rattle.names_core.proofs.Tests.{never}
 
 pub has_permuted : {X : Type 0} (xs ys : List X) (x : X) → IsPermutation xs ys → Has ys x → Has xs x
 has_permuted xs ys x same = all_has (Has xs) ys x (all-permutation (Has xs) xs ys same (all_from (Has xs) xs (λ e h. h)))
@@ -93,9 +94,6 @@ apart_ints m n other = elim (cases_Bool (is_eq (value_cmp (Int (pos m)) (Int (po
   where
     same_pos : pos m ≡ pos n → m ≡ n
     same_pos e = cc
-
-never : false ≡ true → ⊥
-never e = cc
 
 -- ---- a deletion of the row at a place
 

@@ -25,6 +25,7 @@ use Rattle.sqlite_schema.specs.declared.schema.Keys.TheVariants.{Enforced}
 use Rattle.sqlite_rules.specs.Edit.{IsNoIndex}
 use Rattle.keep_tables.specs.Tables.{IsTable, lone_table, column_of, keeper_schema, row_of}
 use Rattle.keep_tables.proofs.TextLemmas.{terms}
+use Rattle.names_core.proofs.Tests.{never}
 
 -- a table of an id and one other column
 abbrev pub table_of : List ℕ → ℕ → List ℕ → Kind → Table
@@ -53,9 +54,6 @@ cast_null = either _ Null
 pub cast_whole : (n : ℕ) → cast Integer (Int (pos n)) ≡ Int (pos n)
 unfolding unary
 cast_whole n = either _ (Int (pos n))
-
-never : false ≡ true → ⊥
-never e = cc
 
 same_id : is_eq (value_cmp (Int (pos 1)) (Int (pos 1))) ≡ true
 unfolding value_cmp lib.Ieee.is_nan lib.Ieee.lt

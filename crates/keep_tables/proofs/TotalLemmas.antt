@@ -27,9 +27,7 @@ use Rattle.keep_tables.specs.Tables.{AreIds, IsSame, Puts, SparesOthers, amount_
 use Rattle.keep_tables.specs.Totals.{AreNamed, HasAmounts, HasNoAmount, PutsAmounts, amount_of, amount_rows, amount_in_row, amounts_in_rows, before_all, summed, total_in_rows}
 use Rattle.keep_tables.proofs.ColumnLemmas.{amount_some, text_plain}
 use Rattle.keep_tables.proofs.ReadLemmas.{none_shown}
-
-same_some : {A : Type 0} {x y : A} → ◌≡◌ {A = Option A} (Some x) (Some y) → x ≡ y
-same_some e = cc
+use Rattle.names_core.proofs.Options.{same_some}
 
 -- ---- an amount that is added
 

@@ -13,13 +13,11 @@ use Rattle.master_agents.proofs.NamedIds.{IdsNameOffers}
 use Rattle.master_agents.specs.Joined.{AreApart, AreOfOne, join, joined}
 use Rattle.master_agents.specs.Looks.{withdrawing}
 use Rattle.master_agents.proofs.Joining.{KeepsApart}
+use Rattle.names_core.proofs.IdOrder.{same-comm}
+use Rattle.std.proofs.lemmas.Bool.{or_parts}
 
 abbrev ids : List Offer → List Numbered
 ids os = map (λ o. o.id) os
-
-pub or_parts : (a b : Bool) → (a || b) ≡ false → (a ≡ false) × (b ≡ false)
-or_parts true b e = absurd cc
-or_parts false b e = (refl, e)
 
 -- an id that no offer has is none of those that stay
 none_among : (test : Offer → Bool) (os : List Offer) (id : Numbered) → is_among (ids os) id ≡ false → is_among (ids (filter test os)) id ≡ false
@@ -58,15 +56,12 @@ not_among_more (p ∷ os) o id h other =
     let parts = or_parts (same p.id id) (is_among (ids os) id) h in
     rw parts.0 (not_among_more os o id parts.1 other)
 
-same_back : (i j : Numbered) → same i j ≡ same j i
-same_back i j = grind (arith, nat_tests)
-
 pub apart_more : (os : List Offer) (o : Offer) → is_repeated (ids os) ≡ false → list_any (accounts.is_offered_as o.id) os ≡ false → is_repeated (ids (os ++ o ∷ [])) ≡ false
 apart_more [] o h new = refl
 apart_more (p ∷ os) o h new =
     let parts = or_parts (is_among (ids os) p.id) (is_repeated (ids os)) h in
     let others = or_parts (same p.id o.id) (list_any (accounts.is_offered_as o.id) os) new in
-    rw (not_among_more os o p.id parts.0 (same_back o.id p.id ∙ others.0)) (apart_more os o parts.1 others.1)
+    rw (not_among_more os o p.id parts.0 (same-comm o.id p.id ∙ others.0)) (apart_more os o parts.1 others.1)
 
 -- withdrawing by a test, and by the ids of offers that pass it
 

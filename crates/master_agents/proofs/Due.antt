@@ -16,8 +16,9 @@ use Rattle.master_agents.specs.Changes.{offering, with_offer, with_task}
 use Rattle.master_agents.specs.Joined.{AreApart, AreOfOne, Fit, IsIn, join, joined}
 use Rattle.master_agents.specs.Looks.{at_name, value_of}
 use Rattle.master_agents.specs.Taking.{booked_at, booked_on, fits, is_booked, is_offered, offered_at, offered_to}
-use Rattle.master_agents.proofs.Apart.{apart_more, or_parts}
+use Rattle.master_agents.proofs.Apart.{apart_more}
 use Rattle.master_agents.proofs.Joining.{KeepsAccount}
+use Rattle.std.proofs.lemmas.Bool.{or_parts}
 
 -- the agent of a name
 

@@ -85,26 +85,12 @@ pub if_ok : {T E : Type 0} {P Q : T → Type 0} (r : Result T E) → ((x : T) �
 if_ok (Ok x) f p = f x p
 if_ok (Err e) f p = tt
 
-pub if_err : {T E : Type 0} {P Q : E → Type 0} (r : Result T E) → ((e : E) → P e → Q e) → IfErr r P → IfErr r Q
-if_err (Ok x) f p = tt
-if_err (Err e) f p = f e p
-
 -- a thing is changed or it stays: what holds of both holds
 pub either_way : {T E X : Type 0} (P : X → Type 0) (r : Result T E) (now changed before : X) → OnOk r (now ≡ changed) → OnErr r (now ≡ before) → P changed → P before → P now
 either_way P (Ok x) now changed before ok err c b = subst P (sym ok) c
 either_way P (Err e) now changed before ok err c b = subst P (sym err) b
 
 -- a place in the roster
-
-pub told_here : {X : Type 0} (i : ℕ) (field : Side → X) (none : X) (ss : List Side) (s : Side) → i < length ss → s ≡ get_or ss i s → field s ≡ value_at i field none ss
-told_here i field none [] s within is = absurd (omega arith)
-told_here zero field none (t ∷ ts) s within is = ap field is
-told_here (suc i) field none (t ∷ ts) s within is = told_here i field none ts s (omega arith) is
-
-pub told_past : {X : Type 0} (i : ℕ) (field : Side → X) (none : X) (ss : List Side) → length ss ≤ i → none ≡ value_at i field none ss
-told_past i field none [] past = refl
-told_past zero field none (t ∷ ts) past = absurd (omega arith)
-told_past (suc i) field none (t ∷ ts) past = told_past i field none ts (omega arith)
 
 -- an entry and an account change together, where something is told of the entry
 

@@ -5,6 +5,7 @@ use Rattle.std.proofs.lemmas.Bool.Decides.{nat_tests}
 use Rattle.messages.specs.declared.task.Offer.{Offer}
 use Rattle.names_core.specs.Ids.{Numbered, same}
 use Rattle.cluster_model.specs.Ids.{is_among, is_repeated}
+use Rattle.names_core.proofs.IdOrder.{same-comm, same_itself}
 
 -- where no two offers have one id, those that pass a test are just those that have the ids of such
 abbrev pub IdsNameOffers : Type 0
@@ -15,16 +16,6 @@ IdsNameOffers =
 
 abbrev ids : List Offer → List Numbered
 ids os = map (λ o. o.id) os
-
-same_itself : (i : Numbered) → same i i ≡ true
-same_itself i = grind (arith, nat_tests)
-
-pub same_back : (i j : Numbered) → same i j ≡ same j i
-same_back i j = grind (arith, nat_tests)
-
-or_true : (a b : Bool) → b ≡ true → (a || b) ≡ true
-or_true true b e = refl
-or_true false b e = e
 
 -- an id that no offer has is none of those that pass
 none_among : (test : Offer → Bool) (os : List Offer) (id : Numbered) → is_among (ids os) id ≡ false → is_among (ids (filter test os)) id ≡ false
@@ -44,7 +35,7 @@ without_one : (id : Numbered) (others : List Numbered) (os : List Offer) → is_
 without_one id others [] h = refl
 without_one id others (o ∷ os) h =
     let parts = or_parts (same o.id id) (is_among (ids os) id) h in
-    let other : same id o.id ≡ false = same_back id o.id ∙ parts.0 in
+    let other : same id o.id ≡ false = same-comm id o.id ∙ parts.0 in
     rw other (ap (λ ps. cond (not (is_among others o.id)) (o ∷ ps) ps) (without_one id others os parts.1))
 
 pub ids_name_offers : IdsNameOffers

@@ -7,14 +7,7 @@ use Rattle.std.proofs.lemmas.Bool.Decides.{nat_tests}
 use Rattle.cluster_model.specs.Ids.{bytes_before}
 use Rattle.master_agents.specs.Configs.{are_ordered, has_name, names_of, place_for, with_agent}
 use Rattle.master_agents.specs.declared.config.ConfiguredAgent.{ConfiguredAgent}
-
-pub both_true : (x y : Bool) → (x && y) ≡ true → (x ≡ true) × (y ≡ true)
-both_true true y e = (refl, e)
-both_true false y e = absurd cc
-
-or_parts : (a b : Bool) → (a || b) ≡ false → (a ≡ false) × (b ≡ false)
-or_parts true b e = absurd cc
-or_parts false b e = (refl, e)
+use Rattle.std.proofs.lemmas.Bool.{and_parts, or_parts}
 
 -- one of two names stands before the other
 
@@ -50,7 +43,7 @@ AllBehind n as_ = list_all (bytes_before n) (names_of as_) ≡ true
 behind_trans : (n m : List ℕ) (as_ : List ConfiguredAgent) → bytes_before n m ≡ true → AllBehind m as_ → AllBehind n as_
 behind_trans n m [] lt h = refl
 behind_trans n m (a ∷ as_) lt h =
-    let both = both_true (bytes_before m a.name) (list_all (bytes_before m) (names_of as_)) h in
+    let both = and_parts (bytes_before m a.name) (list_all (bytes_before m) (names_of as_)) h in
     and_from (bytes_before n a.name) (list_all (bytes_before n) (names_of as_)) (before_trans n m a.name lt both.0) (behind_trans n m as_ lt both.1)
 
 all_with : (n : List ℕ) (a : ConfiguredAgent) (bs : List ConfiguredAgent) → bytes_before n a.name ≡ true → AllBehind n bs → AllBehind n (with_agent a bs)
@@ -58,7 +51,7 @@ all_with n a [] lt h = and_from (bytes_before n a.name) true lt refl
 all_with n a (b ∷ bs) lt h = by (bytes_before b.name a.name) refl (all_with n a bs lt)
   where
     both : (bytes_before n b.name ≡ true) × AllBehind n bs
-    both = both_true (bytes_before n b.name) (list_all (bytes_before n) (names_of bs)) h
+    both = and_parts (bytes_before n b.name) (list_all (bytes_before n) (names_of bs)) h
 
     by : (v : Bool) → bytes_before b.name a.name ≡ v → (AllBehind n bs → AllBehind n (with_agent a bs)) → AllBehind n (with_agent a (b ∷ bs))
     by true e ih = rw e (and_from (bytes_before n b.name) (list_all (bytes_before n) (names_of (with_agent a bs))) both.0 (ih both.1))
@@ -69,7 +62,7 @@ with_ordered a [] o other_names = refl
 with_ordered a (b ∷ bs) o other_names = by (bytes_before b.name a.name) refl (with_ordered a bs)
   where
     both : AllBehind b.name bs × (are_ordered (names_of bs) ≡ true)
-    both = both_true (list_all (bytes_before b.name) (names_of bs)) (are_ordered (names_of bs)) o
+    both = and_parts (list_all (bytes_before b.name) (names_of bs)) (are_ordered (names_of bs)) o
 
     other : (bytes_eq b.name a.name ≡ false) × (has_name a.name bs ≡ false)
     other = or_parts (bytes_eq b.name a.name) (has_name a.name bs) other_names

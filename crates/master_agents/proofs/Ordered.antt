@@ -10,20 +10,22 @@ use Rattle.cluster_model.specs.Sides.{Side}
 use Rattle.roster.specs.Places.{place_of}
 use Rattle.master_agents.specs.Configs.{are_ordered}
 use Rattle.master_agents.specs.Joined.{side_names}
-use Rattle.master_agents.proofs.Naming.{both_true, before_trans}
+use Rattle.master_agents.proofs.Naming.{before_trans}
+use Rattle.names_core.proofs.IdOrder.{not_itself}
+use Rattle.std.proofs.lemmas.Bool.{and_parts}
 
 -- of two agents the earlier one has the earlier name
 
 all_at : (n : List ℕ) (ss : List Side) (j : ℕ) (d : Side) → list_all (bytes_before n) (side_names ss) ≡ true → j < length ss → bytes_before n (get_or ss j d).name ≡ true
 all_at n [] j d h lt = absurd (omega arith)
-all_at n (s ∷ ss) zero d h lt = (both_true (bytes_before n s.name) (list_all (bytes_before n) (side_names ss)) h).0
-all_at n (s ∷ ss) (suc j) d h lt = all_at n ss j d (both_true (bytes_before n s.name) (list_all (bytes_before n) (side_names ss)) h).1 (omega arith)
+all_at n (s ∷ ss) zero d h lt = (and_parts (bytes_before n s.name) (list_all (bytes_before n) (side_names ss)) h).0
+all_at n (s ∷ ss) (suc j) d h lt = all_at n ss j d (and_parts (bytes_before n s.name) (list_all (bytes_before n) (side_names ss)) h).1 (omega arith)
 
 pub pair_ordered : (ss : List Side) (i j : ℕ) (d : Side) → are_ordered (side_names ss) ≡ true → i < j → j < length ss → bytes_before (get_or ss i d).name (get_or ss j d).name ≡ true
 pair_ordered [] i j d h lt within = absurd (omega arith)
 pair_ordered (s ∷ ss) i zero d h lt within = absurd (omega arith)
-pair_ordered (s ∷ ss) zero (suc j) d h lt within = all_at s.name ss j d (both_true (list_all (bytes_before s.name) (side_names ss)) (are_ordered (side_names ss)) h).0 (omega arith)
-pair_ordered (s ∷ ss) (suc i) (suc j) d h lt within = pair_ordered ss i j d (both_true (list_all (bytes_before s.name) (side_names ss)) (are_ordered (side_names ss)) h).1 (omega arith) (omega arith)
+pair_ordered (s ∷ ss) zero (suc j) d h lt within = all_at s.name ss j d (and_parts (list_all (bytes_before s.name) (side_names ss)) (are_ordered (side_names ss)) h).0 (omega arith)
+pair_ordered (s ∷ ss) (suc i) (suc j) d h lt within = pair_ordered ss i j d (and_parts (list_all (bytes_before s.name) (side_names ss)) (are_ordered (side_names ss)) h).1 (omega arith) (omega arith)
 
 -- the agents before a name are the first ones
 
@@ -36,15 +38,11 @@ parted name ss h i j d le within before = by (nat_lt i j) refl
 
 -- a name isn't before itself
 
-not_before : (xs : List ℕ) → bytes_before xs xs ≡ false
-not_before [] = refl
-not_before (x ∷ xs) = let rest : bytes_before xs xs ≡ false = not_before xs in rw rest (grind (arith, nat_tests))
-
 pub other_name : (name : List ℕ) (s : Side) → bytes_before s.name name ≡ true → bytes_eq s.name name ≡ false
 other_name name s before = by (bytes_eq s.name name) refl
   where
     by : (b : Bool) → bytes_eq s.name name ≡ b → b ≡ false
-    by true e = absurd (true≢false (sym before ∙ ap (bytes_before s.name) (sym ((bytes_eq-Decides s.name name).0 e)) ∙ not_before s.name))
+    by true e = absurd (true≢false (sym before ∙ ap (bytes_before s.name) (sym ((bytes_eq-Decides s.name name).0 e)) ∙ not_itself s.name))
     by false e = refl
 
 -- where a name is not before another, one after it that it is before isn't that other one

@@ -14,25 +14,22 @@ use Rattle.offer_tables.specs.Accounts.{Account}
 use Rattle.offer_tables.specs.Places.{IsNowhere, IsOnlyFrom}
 use Rattle.master_agents.specs.Joined.{join, joined}
 use Rattle.master_agents.specs.Own.{if_good, named_rows, sides_with_tasks}
+use Rattle.std.proofs.Math.Bool.{and-false}
 
 abbrev NoneOf : Numbered → List Offer → Type 0
 NoneOf id os = AllByRecursion (λ o. same o.id id ≡ false) os
-
-and_false : (v : Bool) → (v && false) ≡ false
-and_false true = refl
-and_false false = refl
 
 no_offer : (framework id : Numbered) (os : List Offer) → NoneOf id os → list_any (λ o. same o.framework framework && same o.id id) os ≡ false
 no_offer framework id [] h = refl
 no_offer framework id (o ∷ os) h =
     ap (λ v. (same o.framework framework && v) || list_any (λ p. same p.framework framework && same p.id id) os) h.0
-    ∙ ap (λ v. v || list_any (λ p. same p.framework framework && same p.id id) os) (and_false (same o.framework framework)) ∙ no_offer framework id os h.1
+    ∙ ap (λ v. v || list_any (λ p. same p.framework framework && same p.id id) os) (and-false (same o.framework framework)) ∙ no_offer framework id os h.1
 
 -- an agent that has no offer of the first id
 not_good : (framework id : Numbered) (ids : List Numbered) (s : Side) → NoneOf id s.offers → is_good s framework (id ∷ ids) ≡ false
 not_good framework id ids s none =
     ap (λ v. s.is_open && not (is_empty (id ∷ ids)) && not (is_repeated (id ∷ ids)) && (v && list_all (has_offer s framework) ids)) (no_offer framework id s.offers none)
-    ∙ and_false (s.is_open && not (is_empty (id ∷ ids)) && not (is_repeated (id ∷ ids)))
+    ∙ and-false (s.is_open && not (is_empty (id ∷ ids)) && not (is_repeated (id ∷ ids)))
 
 pub none_good : (framework id : Numbered) (ids : List Numbered) (ss : List Side) (as_ : List Account) → IsNowhere (λ o. o.id) (λ a. a.offers) id as_
     → find (λ s. is_good s framework (id ∷ ids)) (joined ss as_) ≡ None

@@ -12,25 +12,16 @@ use Rattle.offer_tables.specs.Books.{at_first, changed, changed_at, is_agent}
 use Rattle.offer_tables.specs.Faults.{IsDue}
 use Rattle.master_agents.specs.Configs.{are_ordered}
 use Rattle.master_agents.specs.Joined.{AreOfOne, Fit, IsIn, at_place, side_names}
-use Rattle.master_agents.proofs.Naming.{both_true}
+use Rattle.cluster_model.proofs.Chains.{other_names}
+use Rattle.std.proofs.Math.Bool.{and-false}
+use Rattle.std.proofs.lemmas.Bool.{and_parts}
 
 -- names in order are different
 
-not_itself : (xs : List ℕ) → bytes_before xs xs ≡ false
-not_itself [] = refl
-not_itself (x ∷ xs) = rw (not_itself xs) (grind (arith, nat_tests))
-
-pub other_names : (xs ys : List ℕ) → bytes_before xs ys ≡ true → bytes_eq xs ys ≡ false
-other_names xs ys before = by (bytes_eq xs ys) refl
-  where
-    by : (v : Bool) → bytes_eq xs ys ≡ v → v ≡ false
-    by true same = absurd (true≢false (sym before ∙ ap (bytes_before xs) (sym ((bytes_decides xs ys).0 same)) ∙ not_itself xs))
-    by false same = refl
-
 pub all_named : (test : List ℕ → Bool) (ss : List Side) → list_all test (side_names ss) ≡ true → (i : ℕ) (s : Side) → i < length ss → s ≡ get_or ss i s → test s.name ≡ true
 all_named test [] all i s within is = absurd (omega arith)
-all_named test (t ∷ ss) all zero s within is = ap (λ (u : Side). test u.name) is ∙ (both_true (test t.name) (list_all test (side_names ss)) all).0
-all_named test (t ∷ ss) all (suc i) s within is = all_named test ss (both_true (test t.name) (list_all test (side_names ss)) all).1 i s (omega arith) is
+all_named test (t ∷ ss) all zero s within is = ap (λ (u : Side). test u.name) is ∙ (and_parts (test t.name) (list_all test (side_names ss)) all).0
+all_named test (t ∷ ss) all (suc i) s within is = all_named test ss (and_parts (test t.name) (list_all test (side_names ss)) all).1 i s (omega arith) is
 
 -- a test passes at a place, and at none before
 abbrev pub FirstAt : (Account → Bool) → List Account → ℕ → Type 0
@@ -48,10 +39,6 @@ found_there test [] i first = absurd first
 found_there test (a ∷ as_) zero first = (a, rw first refl)
 found_there test (a ∷ as_) (suc i) first = let behind = found_there test as_ i first.1 in (behind.0, rw first.0 behind.1)
 
-and_false : (v : Bool) → (v && false) ≡ false
-and_false true = refl
-and_false false = refl
-
 pub named_first : (ss : List Side) (as_ : List Account) → AreOfOne ss as_ → are_ordered (side_names ss) ≡ true → AllByRecursion IsIn as_
     → (i : ℕ) (s : Side) → i < length ss → s ≡ get_or ss i s → FirstAt (is_agent s.name) as_ i
 named_first [] as_ one ordered present i s within is = absurd (omega arith)
@@ -59,9 +46,9 @@ named_first (t ∷ ss) [] one ordered present i s within is = absurd one
 named_first (t ∷ ss) (a ∷ as_) one ordered present zero s within is =
     ap (λ v. v && bytes_eq a.name s.name) present.0 ∙ (bytes_decides a.name s.name).1 (sym one.0 ∙ ap (λ (u : Side). u.name) (sym is))
 named_first (t ∷ ss) (a ∷ as_) one ordered present (suc i) s within is =
-    let parts = both_true (list_all (bytes_before t.name) (side_names ss)) (are_ordered (side_names ss)) ordered in
+    let parts = and_parts (list_all (bytes_before t.name) (side_names ss)) (are_ordered (side_names ss)) ordered in
     let other : bytes_eq a.name s.name ≡ false = ap (λ n. bytes_eq n s.name) (sym one.0) ∙ other_names t.name s.name (all_named (bytes_before t.name) ss parts.0 i s (omega arith) is) in
-    (ap (λ v. a.is_in && v) other ∙ and_false a.is_in, named_first ss as_ one.1 parts.1 present.1 i s (omega arith) is)
+    (ap (λ v. a.is_in && v) other ∙ and-false a.is_in, named_first ss as_ one.1 parts.1 present.1 i s (omega arith) is)
 
 pub placed : (change : Account → Account) (ss : List Side) (as_ : List Account) → Fit ss as_ → (i : ℕ) (s : Side) → i < length ss → s ≡ get_or ss i s → changed s.name change as_ ≡ Ok (at_place i change as_)
 placed change ss as_ fit i s within is =

@@ -12,6 +12,8 @@ use Rattle.offer_tables.specs.Found.{offers_on, place, tasks_on, there}
 use Rattle.offer_tables.specs.Places.{IsNowhere, IsOnlyFrom}
 use Rattle.master_agents.specs.Joined.{AreOfOne, join, joined}
 use Rattle.master_agents.specs.Looks.{all_placed, is_received_last, value_of}
+use Rattle.names_core.proofs.Tests.{or-right}
+use Rattle.std.proofs.Math.Bool.{or-false}
 
 pub drop_got : (as_ : List Account) (p : ℕ) (a : Account) → Some a ≡ slice_get as_ p → drop p as_ ≡ a ∷ drop (suc p) as_
 drop_got [] p a h = absurd (cc)
@@ -88,14 +90,6 @@ past_there items (a ∷ as_) (suc p) h = past_there items as_ p (omega arith)
 
 -- the update last received of the one task of a key
 
-or_false : (x : Bool) → (x || false) ≡ x
-or_false true = refl
-or_false false = refl
-
-or_true : (x y : Bool) → y ≡ true → (x || y) ≡ true
-or_true true y h = refl
-or_true false y h = h
-
 any_append : (t : Placed → Bool) (xs ys : List Placed) → list_any t (xs ++ ys) ≡ (list_any t xs || list_any t ys)
 any_append t [] ys = refl
 any_append t (x ∷ xs) ys = by (t x) (any_append t xs ys)
@@ -127,7 +121,7 @@ module _ (framework : Numbered) (agent name : List ℕ) (key : Numbered) (k : �
   one_passes on E x (b ∷ bs) h some is =
       ⊎_elim
       (λ t. ap (λ v. v || list_any last (map (place on) bs)) (ap (λ c. last (place on c)) (h.0 t).0 ∙ is))
-      (λ t. let behind : list_any (has_key key) bs ≡ true = rw t at some in or_true (last (place on b)) (list_any last (map (place on) bs)) (one_passes on E x bs h.1 behind is))
+      (λ t. let behind : list_any (has_key key) bs ≡ true = rw t at some in or-right (last (place on b)) (list_any last (map (place on) bs)) (one_passes on E x bs h.1 behind is))
       (cases_Bool (same b.job.key key))
 
   one_here : (on : List ℕ) (E : Type 0) (x : Booked) (bs : List Booked) → AllByRecursion (λ b. same b.job.key key ≡ true → (b ≡ x) × E) bs → list_any (has_key key) bs ≡ true → list_any last (map (place on) bs) ≡ last (place on x)
@@ -160,7 +154,7 @@ module _ (framework : Numbered) (agent name : List ℕ) (key : Numbered) (k : �
       let is : t ≡ join s a = cc in
       any_append last (placed_on (join s a)) (all_placed (joined ss as_))
       ∙ ap (λ v. list_any last (placed_on (join s a)) || v) (last_past (suc q) p x ss as_ (omega arith) h.1)
-      ∙ or_false (list_any last (placed_on (join s a)))
+      ∙ or-false (list_any last (placed_on (join s a)))
       ∙ one_here s.name (q ≡ p) x a.booked h.0 some
       ∙ ap (λ (u : Side). last (place u.name x)) (sym is)
   last_at q (suc n) p x (s ∷ ss) (a ∷ as_) t e h some got =

@@ -16,18 +16,20 @@ use Rattle.roster.specs.Sessions.{after_report, report_opens, reported}
 use Rattle.cluster_model.specs.Sides.{Side, new_side}
 use Rattle.offer_book.specs.Lists.{same_id}
 use Rattle.offer_book.proofs.Changing.{same_turned}
-use Rattle.offer_book.proofs.Ids.{same_id_equiv, same_id-true}
+use Rattle.offer_book.proofs.Ids.{same_id_equiv}
 use Rattle.offer_tables.specs.Accounts.{Account, has_key, is_agent, reopened}
 use Rattle.offer_tables.specs.Books.{is_booked, reopened_on}
 use Rattle.master_agents.proofs.Joining.{fit_book, joined_told}
 use Rattle.master_agents.proofs.Changing.{opens_if, reopened_keeps, report_keeps}
 use Rattle.offer_tables.specs.Reports.{AreBookableOn}
-use Rattle.offer_tables.proofs.Placed.{bytes_turned}
 use Rattle.master_agents.specs.Configs.{are_ordered}
 use Rattle.master_agents.specs.Joined.{AreOfOne, Fit, at_place, joined, side_names}
 use Rattle.master_agents.specs.Reports.{AreApart, AreBookable, KeysRise}
-use Rattle.master_agents.proofs.Naming.{both_true}
-use Rattle.master_agents.proofs.Placing.{changes_there, named_first, other_names, placed}
+use Rattle.master_agents.proofs.Placing.{changes_there, named_first, placed}
+use Rattle.cluster_model.proofs.Chains.{other_names}
+use Rattle.names_core.proofs.IdOrder.{not_same}
+use Rattle.names_core.proofs.Lists.{bytes_eq-comm}
+use Rattle.std.proofs.lemmas.Bool.{and_parts}
 
 -- keys that rise are distinct
 
@@ -56,32 +58,26 @@ Others n (suc p) (s ∷ ss) = (bytes_eq s.name n ≡ false) × Others n p ss
 all_behind : (n : List ℕ) (ss : List Side) → list_all (bytes_before n) (side_names ss) ≡ true → AllByRecursion (λ t. bytes_eq t.name n ≡ false) ss
 all_behind n [] h = tt
 all_behind n (s ∷ ss) h =
-    let parts = both_true (bytes_before n s.name) (list_all (bytes_before n) (side_names ss)) h in
-    (bytes_turned s.name n ∙ other_names n s.name parts.0, all_behind n ss parts.1)
+    let parts = and_parts (bytes_before n s.name) (list_all (bytes_before n) (side_names ss)) h in
+    (bytes_eq-comm s.name n ∙ other_names n s.name parts.0, all_behind n ss parts.1)
 
 others_are : (ss : List Side) → are_ordered (side_names ss) ≡ true → (p : ℕ) (s : Side) → Some s ≡ slice_get ss p → Others s.name p ss
 others_are [] ordered p s got = tt
 others_are (t ∷ ss) ordered zero s got =
-    let parts = both_true (list_all (bytes_before t.name) (side_names ss)) (are_ordered (side_names ss)) ordered in
+    let parts = and_parts (list_all (bytes_before t.name) (side_names ss)) (are_ordered (side_names ss)) ordered in
     let is : s ≡ t = cc in
     subst (λ (u : Side). AllByRecursion (λ v. bytes_eq v.name u.name ≡ false) ss) (sym is) (all_behind t.name ss parts.0)
 others_are (t ∷ ss) ordered (suc p) s got =
-    let parts = both_true (list_all (bytes_before t.name) (side_names ss)) (are_ordered (side_names ss)) ordered in
+    let parts = and_parts (list_all (bytes_before t.name) (side_names ss)) (are_ordered (side_names ss)) ordered in
     (other_names t.name s.name (named_at_place (bytes_before t.name) ss parts.0 p s got), others_are ss parts.1 p s got)
   where
     named_at_place : (test : List ℕ → Bool) (us : List Side) → list_all test (side_names us) ≡ true → (q : ℕ) (u : Side) → Some u ≡ slice_get us q → test u.name ≡ true
     named_at_place test [] all q u at = absurd (cc)
     named_at_place test (v ∷ us) all zero u at =
-        let is : u ≡ v = cc in ap (λ (w : Side). test w.name) is ∙ (both_true (test v.name) (list_all test (side_names us)) all).0
-    named_at_place test (v ∷ us) all (suc q) u at = named_at_place test us (both_true (test v.name) (list_all test (side_names us)) all).1 q u at
+        let is : u ≡ v = cc in ap (λ (w : Side). test w.name) is ∙ (and_parts (test v.name) (list_all test (side_names us)) all).0
+    named_at_place test (v ∷ us) all (suc q) u at = named_at_place test us (and_parts (test v.name) (list_all test (side_names us)) all).1 q u at
 
 -- no key of theirs is booked elsewhere
-
-not_same : (a b : Numbered) → a ≢ b → same a b ≡ false
-not_same a b other = ⊎_elim
-    (λ t. absurd (other (same_id-true a b (same_id_equiv.symm a b ∙ sym (same_turned b a) ∙ t))))
-    (λ t. t)
-    (cases_Bool (same a b))
 
 none_has : (key : Numbered) (bs : List Booked) → AllByRecursion (λ b. b.job.key ≢ key) bs → list_any (has_key key) bs ≡ false
 none_has key [] h = refl

@@ -28,6 +28,8 @@ use Rattle.messages.specs.declared.events.StreamEvent.{StreamEvent}
 use Rattle.master_state.specs.States.{task_state_sent}
 use Rattle.master_state.specs.Works.{master_of}
 use Rattle.master_calls.specs.Accepts.{Bench, Caller, bench, held_task, is_covered, launches, loses_as, loses_one, new_task, no_progress, takes_as, takes_one}
+use Rattle.names_core.proofs.Lists.{append_twice}
+use Rattle.std.proofs.lemmas.Bool.{and_parts}
 
 -- held tasks
 
@@ -72,10 +74,6 @@ both_ways true false f g = absurd (true≢false (sym (f refl)))
 both_ways false true f g = absurd (true≢false (sym (g refl)))
 both_ways false false f g = refl
 
-both_true : (x y : Bool) → (x && y) ≡ true → (x ≡ true) × (y ≡ true)
-both_true true y e = (refl, e)
-both_true false y e = absurd cc
-
 covers_rest : (budget used t : List Row) → AreRows (plus_rows [] budget) → covers budget used ≡ true → covers (rest_of (plus_rows [] budget) used) t ≡ covers budget (t ++ used)
 covers_rest budget used t are covered = both_ways (covers (rest_of (plus_rows [] budget) used) t) (covers budget (t ++ used)) there back
   where
@@ -108,10 +106,6 @@ rest_further : (total used t : List Row) → rest_of (rest_of total used) t ≡ 
 rest_further total used t = rests_join total used t ∙ ap (filter (λ r. nat_lt 0 r.amount)) (left_either used t total)
 
 -- events
-
-append_twice : {A : Type 0} (xs ys : List A) (z : A) → (xs ++ ys) ++ z ∷ [] ≡ xs ++ (ys ++ z ∷ [])
-append_twice [] ys z = refl
-append_twice (x ∷ xs) ys z = ap (λ us. x ∷ us) (append_twice xs ys z)
 
 pub map_more : {A B : Type 0} (f : A → B) (xs : List A) (y : A) → map f (xs ++ y ∷ []) ≡ map f xs ++ f y ∷ []
 map_more f [] y = refl
@@ -233,7 +227,7 @@ taken_as s f g caller b x t are id e None h = by (is_covered g.agent b.progress.
 
     by : (u v : Bool) → u ≡ v → model.is_covered g x.used t ≡ v
         → Come s f g (cond u (bench b.state (launches b.state.run caller.framework t b.progress)) (bench (task_state_sent caller.stream t.name Error (Some t.agent) b.state) b.progress)) (cond v (launching f g x t) (answering x (answers f t.name Error (Some t.agent))))
-    by true true q c = subst (λ i. Come s f g (bench b.state (launches b.state.run i t b.progress)) (launching f g x t)) id (launched s f g b x t (both_true (bytes_eq t.agent g.agent && not (is_empty t.resources)) (covers g.budget (t.resources ++ x.used)) c).1 h)
+    by true true q c = subst (λ i. Come s f g (bench b.state (launches b.state.run i t b.progress)) (launching f g x t)) id (launched s f g b x t (and_parts (bytes_eq t.agent g.agent && not (is_empty t.resources)) (covers g.budget (t.resources ++ x.used)) c).1 h)
     by true false q c = absurd cc
     by false true q c = absurd cc
     by false false q c = answered s f g b x caller.stream t.name Error (Some t.agent) e h

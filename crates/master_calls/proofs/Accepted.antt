@@ -37,8 +37,7 @@ use Rattle.messages.specs.declared.events.StreamEvent.{StreamEvent}
 use Rattle.master_state.specs.States.{without_offers}
 use Rattle.master_state.specs.Works.{Gave, Work, admission, admission_of, done, master_of, registers_of, run_of, work_of}
 use Rattle.master_state.proofs.Admissions.{Admitted, admits}
-use Rattle.master_state.proofs.Doings.{none_more}
-use Rattle.master_state.proofs.Moves.{all_withdrawn, itself, moved_so}
+use Rattle.master_state.proofs.Moves.{all_withdrawn, moved_so}
 use Rattle.master_calls.specs.Accepts as accepts
 use Rattle.master_calls.specs.Accepts.{Bench, Caller, CanLaunch, accepted_good, accepted_none, accepted_so, bench, no_progress, passes_limits, refusing_on, takes_all, without_used_on}
 use Rattle.master_calls.specs.Launches.{AreNew, HasRoomFor, launched_all}
@@ -47,6 +46,8 @@ use Rattle.master_calls.proofs.Rooms.{all_unended}
 use Rattle.master_calls.proofs.NewKeys.{before_there, chain_new}
 use Rattle.master_agents.specs.Taking.{fits}
 use Rattle.master_calls.proofs.Launching.{Ends, Focus, change_there, focus, launches_so, moved_there, stand, step_there, to_agent, told_there}
+use Rattle.names_core.proofs.Lists.{bytes_eq-refl}
+use Rattle.std.proofs.lemmas.List.{append-nil}
 
 -- the framework that calls isn't torn down
 untorn : (m : Master) (given : Option Numbered) (framework stream : Numbered) → admission m given framework ≡ Ok stream → is_torn m framework ≡ false
@@ -69,10 +70,10 @@ with_raw s es = record s { outs = record s.outs { events = es } }
 none_so : (s : State) (f : Framework) (caller : Caller) (ids : List Numbered) (tasks : List TaskInfo) (seconds : ℕ) → f.id ≡ caller.framework → f.stream ≡ Some caller.stream → configs.are_ordered (side_names s.sides) ≡ true
     → work_of (accepted_none caller ids tasks s) ≡ done (accepted_as (master_of s) f ids seconds None (accepts_all (master_of s) f None tasks)) (work_of s)
 none_so s f caller ids tasks seconds id e names =
-    ap (λ (u : State). work_of (without_offers (is_named caller.framework ids) u)) (ap (λ es. fold (accepts.loses_one caller) (with_raw s es) tasks) (sym (none_more s.outs.events)) ∙ lost_all s f caller tasks start id e refl)
+    ap (λ (u : State). work_of (without_offers (is_named caller.framework ids) u)) (ap (λ es. fold (accepts.loses_one caller) (with_raw s es) tasks) (sym (append-nil s.outs.events)) ∙ lost_all s f caller tasks start id e refl)
     ∙ ap (λ x. told_work s x (s.outs.events ++ event_sent)) (sym (all_withdrawn (is_named caller.framework ids) s.sides (run_of s) s.outs.mails names))
     ∙ ap (λ i. told_work s (move_all (withdraws (is_named i ids) (master_of s)) (moved_so (run_of s) s.sides s.outs.mails)) (s.outs.events ++ event_sent)) (sym id)
-    ∙ rw (none_more s.outs.opened, none_more s.outs.closed) refl
+    ∙ rw (append-nil s.outs.opened, append-nil s.outs.closed) refl
   where
     start : Accepting
     start = record { booked = all_booked (master_of s); jobs = []; used = []; next = record { run = s.run; n = suc s.last_key }; events = [] }
@@ -116,7 +117,7 @@ good_so s f caller ids tasks seconds t p =
     ∙ ap (λ (r : Run). good_work s (moved_by front back y.side (s.outs.mails ++ to_agent t.name y.sent) r) refused_table events) (sym ends.run)
     ∙ ap (λ z. good_work s (sending_more s.outs.mails z) refused_table events) (sym there)
     ∙ ap (λ fs. good_work s (sending_more s.outs.mails (at_side t.name step (run_of s) s.sides)) fs events) (sym (put_changed change s.frameworks caller.framework f (λ g. refl) p.ordered p.known))
-    ∙ rw (none_more s.outs.opened, none_more s.outs.closed) refl
+    ∙ rw (append-nil s.outs.opened, append-nil s.outs.closed) refl
   where
     g : Given
     g = given_on f.id ids t
@@ -154,14 +155,14 @@ good_so s f caller ids tasks seconds t p =
 
     begun : without_used_on t.name f.id ids s1 ≡ stand s1 front back t.name s.last_key (without_used t f.id ids) []
     begun =
-        ap (sided s1) (ap (at_name t.name (λ u. without_used u f.id ids)) p.at.is ∙ change_there t.name (λ u. without_used u f.id ids) front back t p.at.others (itself t.name))
-        ∙ ap (mail_effect s1 (front ++ without_used t f.id ids ∷ back)) (sym (none_more s.outs.mails))
+        ap (sided s1) (ap (at_name t.name (λ u. without_used u f.id ids)) p.at.is ∙ change_there t.name (λ u. without_used u f.id ids) front back t p.at.others (bytes_eq-refl t.name))
+        ∙ ap (mail_effect s1 (front ++ without_used t f.id ids ∷ back)) (sym (append-nil s.outs.mails))
 
     y : Sending
     y = launch_all f.id ids g.budget x.jobs (record { used = []; sending = sends_nothing (run_of s) (without_used t f.id ids) })
 
     ends : Ends s1 front back t.name ids x.jobs (stand s1 front back t.name s.last_key (without_used t f.id ids) []) y
-    ends = launches_so s1 front back t.name f.id ids g.budget p.at.others x.jobs [] s.last_key (sends_nothing (run_of s) (without_used t f.id ids)) (itself t.name) refl come.chain
+    ends = launches_so s1 front back t.name f.id ids g.budget p.at.others x.jobs [] s.last_key (sends_nothing (run_of s) (without_used t f.id ids)) (bytes_eq-refl t.name) refl come.chain
 
     change : Framework → Framework
     change = with_filter s.moment seconds t.name rest
@@ -177,7 +178,7 @@ good_so s f caller ids tasks seconds t p =
 
     there : at_side t.name step (run_of s) s.sides ≡ moved_there t.name front back y
     there =
-        ap (at_side t.name step (run_of s)) p.at.is ∙ step_there t.name step (run_of s) front back t p.at.others (itself t.name)
+        ap (at_side t.name step (run_of s)) p.at.is ∙ step_there t.name step (run_of s) front back t p.at.others (bytes_eq-refl t.name)
         ∙ ap (moved_there t.name front back) (cond-true (is_good t f.id ids && not (is_among s.torn f.id)) y (sends_nothing (run_of s) t) may)
 
 -- what is launched has room and new keys
@@ -188,7 +189,7 @@ fits_there (s ∷ front) back t h = fits_there front back t h.1
 
 launches_fit : (s : State) (f : Framework) (caller : Caller) (ids : List Numbered) (tasks : List TaskInfo) (t : Side) → Premises s f caller ids t → SidesFit (run_of s) s.sides → CanLaunch caller t.name ids (takes_all caller (sum_on f.id ids t) tasks s)
 launches_fit s f caller ids tasks t p all = (
-  subst (HasRoomFor t.name b.progress.launched) (sym here) (told_there t.name (fits rows) false p.at.front p.at.back left p.at.others (itself t.name) ∙ room),
+  subst (HasRoomFor t.name b.progress.launched) (sym here) (told_there t.name (fits rows) false p.at.front p.at.back left p.at.others (bytes_eq-refl t.name) ∙ room),
   subst (AreNew b.progress.launched) (sym here) new,
 )
   where
@@ -215,7 +216,7 @@ launches_fit s f caller ids tasks t p all = (
         ap (λ (u : State). at_name t.name (λ v. without_used v caller.framework ids) u.sides) come.state
         ∙ ap (λ i. at_name t.name (λ v. without_used v i ids) s.sides) (sym p.id)
         ∙ ap (at_name t.name (λ u. without_used u f.id ids)) p.at.is
-        ∙ change_there t.name (λ u. without_used u f.id ids) p.at.front p.at.back t p.at.others (itself t.name)
+        ∙ change_there t.name (λ u. without_used u f.id ids) p.at.front p.at.back t p.at.others (bytes_eq-refl t.name)
 
     new : AreNew b.progress.launched (p.at.front ++ left ∷ p.at.back)
     new = subst (λ bs. AreNew bs (p.at.front ++ left ∷ p.at.back)) (sym come.jobs)

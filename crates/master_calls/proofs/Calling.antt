@@ -21,9 +21,10 @@ use Rattle.master_state.specs.declared.state.State.{State}
 use Rattle.master_state.specs.States.{ordered, ordered_as}
 use Rattle.master_state.specs.Works.{Work, admission, done, master_of, registers_of, run_of, work_of}
 use Rattle.master_state.proofs.Admissions.{Admitted, admits, refuses}
-use Rattle.master_state.proofs.Doings.{keeps, moves_alone, none_more}
+use Rattle.master_state.proofs.Doings.{keeps, moves_alone}
 use Rattle.master_state.proofs.Moves.{commanded, mails_of, moved_so}
 use Rattle.master_calls.specs.Tasks.{HeldTask, acks, held_task, kill_limit, kills, sends_task}
+use Rattle.std.proofs.lemmas.List.{append-nil}
 
 -- a call that isn't admitted is refused
 pub turned_down : (s : State) (given : Option Numbered) (framework : Numbered) (refusal : MasterRefusal) (doing : Framework → MasterEffect) → admission (master_of s) given framework ≡ Err refusal
@@ -52,7 +53,7 @@ with_moved x w = record { moved = x; registers = w.registers; events = w.events;
 
 ordered_moves : (s : State) (name : List ℕ) (command : Command) (next : Option (ℕ × ℕ))
     → work_of (ordered_as name command next s) ≡ with_moved (moved_so (run_of s) (at_name name (with_command command) s.sides) (s.outs.mails ++ mails_of name command next)) (work_of s)
-ordered_moves s name command None = ap (λ mails. with_moved (moved_so (run_of s) (at_name name (with_command command) s.sides) mails) (work_of s)) (sym (none_more s.outs.mails))
+ordered_moves s name command None = ap (λ mails. with_moved (moved_so (run_of s) (at_name name (with_command command) s.sides) mails) (work_of s)) (sym (append-nil s.outs.mails))
 ordered_moves s name command (Some next) = refl
 
 pub ordered_so : (s : State) (name : List ℕ) (command : Command) (step : SideStep) → ((t : Side) → side_step (run_of s) t step ≡ issue (sends_nothing (run_of s) t) command)

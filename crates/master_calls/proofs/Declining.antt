@@ -20,9 +20,9 @@ use Rattle.master_state.specs.declared.state.State.{State}
 use Rattle.master_state.specs.States.{without_offers}
 use Rattle.master_state.specs.Works.{Work, admission, done, master_of, registers_of, run_of, work_of}
 use Rattle.master_state.proofs.Admissions.{Admitted, admits, refuses as refuses_call}
-use Rattle.master_state.proofs.Doings.{none_more}
 use Rattle.master_state.proofs.Moves.{all_withdrawn, moved_so}
 use Rattle.master_calls.specs.Declines.{Refuser, is_own, refuses, refuses_each, refuses_id, refuses_if_own, refuses_on}
+use Rattle.std.proofs.lemmas.List.{append-nil}
 
 -- a call that isn't admitted is refused
 pub turned_down : (s : State) (given : Option Numbered) (framework : Numbered) (refusal : MasterRefusal) (doing : Framework → MasterEffect) → admission (master_of s) given framework ≡ Err refusal
@@ -219,4 +219,4 @@ declines_so s given framework stream ids seconds hs e ordered names is =
     same_work =
         ap (λ fs. declined_work s fs (moved_so (run_of s) (map (withdrawing (is_named framework ids)) s.sides) s.outs.mails)) table
         ∙ ap (declined_work s (with_framework (registers_of s) (change a.caller)).frameworks) (sym (all_withdrawn (is_named framework ids) s.sides (run_of s) s.outs.mails names))
-        ∙ rw (none_more s.outs.events, none_more s.outs.opened, none_more s.outs.closed) refl
+        ∙ rw (append-nil s.outs.events, append-nil s.outs.opened, append-nil s.outs.closed) refl

@@ -22,10 +22,11 @@ use Rattle.master_state.specs.declared.state.State.{State}
 use Rattle.master_state.specs.States.{ordered, ordered_as}
 use Rattle.master_state.specs.Works.{Work, admission, done, master_of, registers_of, run_of, work_of}
 use Rattle.master_state.proofs.Admissions.{Admitted, admits}
-use Rattle.master_state.proofs.Doings.{moves_alone, none_more, with_moves}
+use Rattle.master_state.proofs.Doings.{moves_alone, with_moves}
 use Rattle.master_state.proofs.Moves.{all_withdrawn, moved_so}
 use Rattle.master_calls.specs.Ends.{ended, ends_on, torn}
 use Rattle.master_calls.proofs.Calling.{ordered_so}
+use Rattle.std.proofs.lemmas.List.{append-nil}
 
 -- moves in a row
 
@@ -107,7 +108,7 @@ ended_so s f framework stream id open_stream known ordered_ids names =
     ∙ ap (λ fs. ended_work s (move_all (moves_of framework) start) fs (stream ∷ [])) (sym (put_changed without_stream s.frameworks framework f (λ g. refl) ordered_ids known))
     ∙ ap (λ o. ended_work s (move_all (moves_of framework) start) table (to_list o)) (sym open_stream)
     ∙ ap (λ i. ended_work s (move_all (moves_of i) start) table (to_list f.stream)) (sym id)
-    ∙ rw (none_more s.outs.events, none_more s.outs.opened) refl
+    ∙ rw (append-nil s.outs.events, append-nil s.outs.opened) refl
   where
     agents : List (List ℕ)
     agents = map (λ t. t.name) (sides_with_tasks framework s.sides)

@@ -19,6 +19,9 @@ use Rattle.offer_tables.specs.Accounts.{has_key}
 use Rattle.offer_tables.specs.Held.{AreKeyed, is_framework_of, placed_of}
 use Rattle.master_calls.specs.Tasks.{HeldTask, held_task}
 use Rattle.master_calls.specs.Reconciles.{gathers, gathers_found, key_cmp, live_by_key}
+use Rattle.names_core.proofs.IdOrder.{same-is}
+use Rattle.offer_book.proofs.Shared.{among_is}
+use Rattle.std.proofs.lemmas.Bool.{and_parts}
 
 -- ---- members of lists
 
@@ -79,18 +82,6 @@ tied_itself : (a : Numbered) → tied a a ≡ true
 unfolding tied
 tied_itself a = grind (arith, nat_tests)
 
-has_is : (a b : Numbered) → same a b ≡ true → a ≡ b
-has_is a b h =
-    let n : a.n ≡ b.n = grind (arith, nat_tests) in
-    let run : a.run ≡ b.run = grind (arith, nat_tests) in
-    let e : record { run = a.run; n = a.n } ≡ b = rw (n, run) refl in e
-
-among_is : (a b : Numbered) → same_id a b ≡ true → a ≡ b
-among_is a b h =
-    let n : a.n ≡ b.n = grind (arith, nat_tests) in
-    let run : a.run ≡ b.run = grind (arith, nat_tests) in
-    let e : record { run = a.run; n = a.n } ≡ b = rw (n, run) refl in e
-
 -- ---- what is gathered, by its keys
 
 put_is : (k : Numbered) (v : HeldTask) (es : List (Numbered × HeldTask)) → put key_cmp k v es ≡ insert_entry key_cmp es k v
@@ -139,7 +130,7 @@ found_key : (q : Numbered) (ps : List Placed) (p : Placed) → placed_of q ps �
 found_key q [] p h = absurd (cc)
 found_key q (r ∷ ps) p h =
     ⊎_elim
-    (λ t. let e : Some r ≡ Some p = rw t at h in let s : r ≡ p = cc in subst (λ x. x.booked.job.key ≡ q) s (has_is r.booked.job.key q t))
+    (λ t. let e : Some r ≡ Some p = rw t at h in let s : r ≡ p = cc in subst (λ x. x.booked.job.key ≡ q) s (same-is r.booked.job.key q t))
     (λ t. let e : placed_of q ps ≡ Some p = rw t at h in found_key q ps p e)
     (cases_Bool (has_key q r.booked))
 
@@ -151,10 +142,6 @@ found_in q (r ∷ ps) p h =
     (λ t. let e : Some r ≡ Some p = rw t at h in let s : r ≡ p = cc in inl s)
     (λ t. let e : placed_of q ps ≡ Some p = rw t at h in inr (found_in q ps p e))
     (cases_Bool (has_key q r.booked))
-
-both_halves : (a b : Bool) → (a && b) ≡ true → (a ≡ true) × (b ≡ true)
-both_halves true b h = (refl, h)
-both_halves false b h = absurd (true≢false (sym h))
 
 either_way : {X : Type 0} (b : Bool) (x : X) → cond b x x ≡ x
 either_way true x = refl
@@ -175,7 +162,7 @@ module _ (f : Numbered) (all : List Placed) where
   hit_is : (q : Numbered) (p : Placed) → placed_of p.booked.job.key all ≡ Some p → hits f q p ≡ true → Some (held_task p) ≡ want q
   unfolding want wanted_of hits
   hit_is q p at h =
-      let both = both_halves (is_live_of f p) (tied q p.booked.job.key) h in
+      let both = and_parts (is_live_of f p) (tied q p.booked.job.key) h in
       let key : p.booked.job.key ≡ q = sym (tied_is q p.booked.job.key both.1) in
       let here : placed_of q all ≡ Some p = subst (λ k. placed_of k all ≡ Some p) key at in
       let one : wanted_of f (Some p) ≡ Some (held_task p) = rw both.0 refl in
@@ -269,5 +256,5 @@ module _ (f : Numbered) (all : List Placed) where
       by_keys ks []
       ∙ same_entries key_cmp key_total same_key (fold (gathers f) [] (found ks)) (fold (gathers f) [] all) (all_sorted f (found ks) [] tt) (all_sorted f all [] tt)
       (λ q.
-      found_is (found ks) (found_theirs ks) (λ k p e l. found_has ks k p (index k ∙ ap (is_framework_of f) e ∙ (both_halves _ _ l).0) e) q
+      found_is (found ks) (found_theirs ks) (λ k p e l. found_has ks k p (index k ∙ ap (is_framework_of f) e ∙ (and_parts _ _ l).0) e) q
       ∙ sym (found_is all (λ p h. keyed p (in_contains p all h)) (λ k p e l. found_in k all p e) q))

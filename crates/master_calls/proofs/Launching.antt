@@ -23,9 +23,12 @@ use Rattle.master_agents.specs.Looks.{at_name, next_command, value_of}
 use Rattle.roster.specs.Sessions.{with_command}
 use Rattle.master_state.specs.declared.state.State.{State}
 use Rattle.master_state.specs.States.{ordered, ordered_as}
-use Rattle.master_state.proofs.Moves.{before_differs}
 use Rattle.master_calls.specs.Launches.{booked_on, launched_all, launched_one}
 use Rattle.master_calls.proofs.AcceptLemmas.{Chain, map_more}
+use Rattle.cluster_model.proofs.Chains.{issued_run, other_names}
+use Rattle.names_core.proofs.IdOrder.{same_itself}
+use Rattle.names_core.proofs.Lists.{append_twice}
+use Rattle.std.proofs.lemmas.Bool.{and_parts}
 
 -- a side among the others
 
@@ -40,20 +43,16 @@ pub record Focus (test : Side → Bool) (ss : List Side) (t : Side) : Type 0 whe
   pub others : Others t.name front
   pub passes : test t ≡ true
 
-both_true : (x y : Bool) → (x && y) ≡ true → (x ≡ true) × (y ≡ true)
-both_true true y e = (refl, e)
-both_true false y e = absurd cc
-
 named_behind : (n : List ℕ) (xs ys : List Side) (t : Side) → list_all (bytes_before n) (side_names (xs ++ t ∷ ys)) ≡ true → bytes_before n t.name ≡ true
-named_behind n [] ys t h = (both_true (bytes_before n t.name) (list_all (bytes_before n) (side_names ys)) h).0
-named_behind n (x ∷ xs) ys t h = named_behind n xs ys t (both_true (bytes_before n x.name) (list_all (bytes_before n) (side_names (xs ++ t ∷ ys))) h).1
+named_behind n [] ys t h = (and_parts (bytes_before n t.name) (list_all (bytes_before n) (side_names ys)) h).0
+named_behind n (x ∷ xs) ys t h = named_behind n xs ys t (and_parts (bytes_before n x.name) (list_all (bytes_before n) (side_names (xs ++ t ∷ ys))) h).1
 
 pub focus : (test : Side → Bool) (ss : List Side) (t : Side) → find test ss ≡ Some t → are_ordered (side_names ss) ≡ true → Focus test ss t
 focus test [] t e ordered = absurd cc
 focus test (s ∷ ss) t e ordered = by (test s) refl (focus test ss t) e
   where
     both : (list_all (bytes_before s.name) (side_names ss) ≡ true) × (are_ordered (side_names ss) ≡ true)
-    both = both_true (list_all (bytes_before s.name) (side_names ss)) (are_ordered (side_names ss)) ordered
+    both = and_parts (list_all (bytes_before s.name) (side_names ss)) (are_ordered (side_names ss)) ordered
 
     here : test s ≡ true → s ≡ t → Focus test (s ∷ ss) t
     here h is = record { front = []; back = ss; is = ap (λ (u : Side). u ∷ ss) is; others = tt; passes = ap test (sym is) ∙ h }
@@ -63,7 +62,7 @@ focus test (s ∷ ss) t e ordered = by (test s) refl (focus test ss t) e
       front = s ∷ f.front;
       back = f.back;
       is = ap (λ us. s ∷ us) f.is;
-      others = (before_differs s.name t.name (named_behind s.name f.front f.back t (subst (λ us. list_all (bytes_before s.name) (side_names us) ≡ true) f.is both.0)), f.others);
+      others = (other_names s.name t.name (named_behind s.name f.front f.back t (subst (λ us. list_all (bytes_before s.name) (side_names us) ≡ true) f.is both.0)), f.others);
       passes = f.passes;
     }
 
@@ -106,10 +105,6 @@ with_sides s ss = record s { sides = ss }
 abbrev with_mails : State → List ToAgent → State
 with_mails s ms = record s { outs = record s.outs { mails = ms } }
 
-append_twice : {A : Type 0} (xs ys : List A) (z : A) → (xs ++ ys) ++ z ∷ [] ≡ xs ++ (ys ++ z ∷ [])
-append_twice [] ys z = refl
-append_twice (x ∷ xs) ys z = ap (λ us. x ∷ us) (append_twice xs ys z)
-
 booked_there : (s : State) (xs ys : List Side) (name : List ℕ) (last : ℕ) (t : Side) (sent : List MasterMail) (j : Job) → Others name xs → bytes_eq t.name name ≡ true
     → booked_on name (just_booked j) (stand s xs ys name last t sent) ≡ stand s xs ys name j.key.n (with_task (just_booked j) t) sent
 booked_there s xs ys name last t sent j o e = ap (with_sides (stand s xs ys name j.key.n t sent)) (change_there name (with_task (just_booked j)) xs ys t o e)
@@ -146,22 +141,12 @@ ordered_there s xs ys name last x command o e =
 
 -- launches in order
 
-issued_run : (x : Sending) (command : Command) → (issue x command).run ≡ x.run
-issued_run x command = by x.side.is_open refl
-  where
-    by : (b : Bool) → x.side.is_open ≡ b → (issue x command).run ≡ x.run
-    by true h = rw h refl
-    by false h = rw h refl
-
 issued_name : (x : Sending) (command : Command) → (issue x command).side.name ≡ x.side.name
 issued_name x command = by x.side.is_open refl
   where
     by : (b : Bool) → x.side.is_open ≡ b → (issue x command).side.name ≡ x.side.name
     by true h = rw h refl
     by false h = rw h refl
-
-same_itself : (i : Numbered) → same i i ≡ true
-same_itself i = grind (arith, nat_tests)
 
 abbrev pub run_at : State → ℕ → Run
 run_at s last = record { number = s.run; serves = true; torn = s.torn; next_key = record { run = s.run; n = suc last }; next_offer = record { run = s.run; n = s.next_offer } }

@@ -21,23 +21,18 @@ use Rattle.master_state.specs.declared.state.State.{State}
 use Rattle.master_calls.specs.Launches.{AreNew, booked_on, launched_one}
 use Rattle.master_calls.proofs.AcceptLemmas.{Chain}
 use Rattle.master_calls.proofs.Rooms.{ordered_sides}
-
-or_parts : (a b : Bool) → (a || b) ≡ false → (a ≡ false) × (b ≡ false)
-or_parts true b e = absurd cc
-or_parts false b e = (refl, e)
-
-or_both : (a b : Bool) → a ≡ false → b ≡ false → (a || b) ≡ false
-or_both a b e f = rw (e, f) refl
+use Rattle.names_core.proofs.IdOrder.{sooner_differs}
+use Rattle.std.proofs.lemmas.Bool.{or_from, or_parts}
 
 -- a task of this key is booked on this agent
 abbrev is_on : Numbered → Side → Bool
 is_on key s = list_any (λ b. same b.job.key key) s.booked
 
 none_more : (key : Numbered) (bs : List Booked) (b : Booked) → list_any (λ c. same c.job.key key) bs ≡ false → same b.job.key key ≡ false → list_any (λ c. same c.job.key key) (bs ++ b ∷ []) ≡ false
-none_more key [] b h e = or_both (same b.job.key key) false e refl
+none_more key [] b h e = or_from (same b.job.key key) false e refl
 none_more key (c ∷ bs) b h e =
     let parts = or_parts (same c.job.key key) (list_any (λ d. same d.job.key key) bs) h in
-    or_both (same c.job.key key) (list_any (λ d. same d.job.key key) (bs ++ b ∷ [])) parts.0 (none_more key bs b parts.1 e)
+    or_from (same c.job.key key) (list_any (λ d. same d.job.key key) (bs ++ b ∷ [])) parts.0 (none_more key bs b parts.1 e)
 
 none_changed : (key : Numbered) (name : List ℕ) (change : Side → Side) → ((s : Side) → is_on key s ≡ false → is_on key (change s) ≡ false) → (ss : List Side) → is_booked key ss ≡ false → is_booked key (at_name name change ss) ≡ false
 none_changed key name change keeps [] h = h
@@ -47,8 +42,8 @@ none_changed key name change keeps (s ∷ ss) h = by (bytes_eq s.name name) (non
     parts = or_parts (is_on key s) (is_booked key ss) h
 
     by : (v : Bool) → is_booked key (at_name name change ss) ≡ false → is_booked key (cond v (change s ∷ ss) (s ∷ at_name name change ss)) ≡ false
-    by true ih = or_both (is_on key (change s)) (is_booked key ss) (keeps s parts.0) parts.1
-    by false ih = or_both (is_on key s) (is_booked key (at_name name change ss)) parts.0 ih
+    by true ih = or_from (is_on key (change s)) (is_booked key ss) (keeps s parts.0) parts.1
+    by false ih = or_from (is_on key s) (is_booked key (at_name name change ss)) parts.0 ih
 
 command_books : (key : Numbered) (command : Command) (s : Side) → is_on key s ≡ false → is_on key (with_command command s) ≡ false
 command_books key command s h = by s.is_open
@@ -59,12 +54,9 @@ command_books key command s h = by s.is_open
 
 -- one launch after the other
 
-before_is_other : (a b : Numbered) → before a b ≡ true → same a b ≡ false
-before_is_other a b h = grind (arith, nat_tests)
-
 unbooked_next : (agent : List ℕ) (ids : List Numbered) (b : Booked) (key : Numbered) (s : State) → before b.job.key key ≡ true → is_booked key s.sides ≡ false → is_booked key (launched_one agent ids s b).sides ≡ false
 unbooked_next agent ids b key s lt h =
-    let booked : is_booked key (at_name agent (with_task b) s.sides) ≡ false = none_changed key agent (with_task b) (λ t g. none_more key t.booked b g (before_is_other b.job.key key lt)) s.sides h in
+    let booked : is_booked key (at_name agent (with_task b) s.sides) ≡ false = none_changed key agent (with_task b) (λ t g. none_more key t.booked b g (sooner_differs b.job.key key lt)) s.sides h in
     subst (λ ss. is_booked key ss ≡ false) (sym (ordered_sides agent (Launch b.job ids) (booked_on agent b s)))
     (none_changed key agent (with_command (Launch b.job ids)) (command_books key (Launch b.job ids)) (at_name agent (with_task b) s.sides) booked)
 
@@ -84,11 +76,11 @@ new_at bs i b ss low is h = subst (λ cs. AreNew cs ss) (drop_more bs i b low �
 
 none_under : (next : Numbered) (bs : List Booked) → KeysBefore next bs → list_any (λ b. same b.job.key next) bs ≡ false
 none_under next [] h = refl
-none_under next (b ∷ bs) h = or_both (same b.job.key next) (list_any (λ c. same c.job.key next) bs) (before_is_other b.job.key next h.0) (none_under next bs h.1)
+none_under next (b ∷ bs) h = or_from (same b.job.key next) (list_any (λ c. same c.job.key next) bs) (sooner_differs b.job.key next h.0) (none_under next bs h.1)
 
 next_unbooked : (next : Numbered) (ss : List Side) → AllByRecursion (BookedBefore next) ss → is_booked next ss ≡ false
 next_unbooked next [] h = refl
-next_unbooked next (s ∷ ss) h = or_both (is_on next s) (is_booked next ss) (none_under next s.booked h.0) (next_unbooked next ss h.1)
+next_unbooked next (s ∷ ss) h = or_from (is_on next s) (is_booked next ss) (none_under next s.booked h.0) (next_unbooked next ss h.1)
 
 before_following : (key next : Numbered) → before key next ≡ true → before key (following next) ≡ true
 before_following key next h = grind (arith, nat_tests)

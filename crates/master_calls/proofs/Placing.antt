@@ -11,30 +11,10 @@ use Rattle.names_core.specs.Ids.{Numbered, same, before}
 use Rattle.cluster_model.specs.Masters.{Placed, put_placed}
 use Rattle.master_calls.specs.Tasks.{HeldTask, held_task}
 use Rattle.master_calls.specs.Reconciles.{key_cmp}
+use Rattle.names_core.proofs.IdOrder.{before-irrefl, before_both, else_after, not_after, same-is}
+use Rattle.std.proofs.lemmas.Bool.{and_parts}
 
 -- keys
-
-both_true : (x y : Bool) → (x && y) ≡ true → (x ≡ true) × (y ≡ true)
-both_true true y e = (refl, e)
-both_true false y e = absurd cc
-
-same_is : (a b : Numbered) → same a b ≡ true → a ≡ b
-same_is a b h =
-    let n : a.n ≡ b.n = grind (arith, nat_tests) in
-    let run : a.run ≡ b.run = grind (arith, nat_tests) in
-    let e : record { run = a.run; n = a.n } ≡ b = rw (n, run) refl in e
-
-not_itself : (a : Numbered) → before a a ≡ false
-not_itself a = grind (arith, nat_tests)
-
-not_after : (a b : Numbered) → before a b ≡ true → before b a ≡ false
-not_after a b h = grind (arith, nat_tests)
-
-else_after : (a b : Numbered) → before a b ≡ false → same a b ≡ false → before b a ≡ true
-else_after a b h k = grind (arith, nat_tests)
-
-before_trans : (a b c : Numbered) → before a b ≡ true → before b c ≡ true → before a c ≡ true
-before_trans a b c h k = grind (arith, nat_tests)
 
 less_is : (a b : Numbered) → before a b ≡ true → key_cmp a b ≡ Less
 less_is a b h = grind (arith, nat_tests)
@@ -53,20 +33,20 @@ AllBehind a ps = list_all (λ q. before a q.booked.job.key) ps ≡ true
 none_before : (a : Numbered) (ps : List Placed) → AllBehind a ps → filter (λ q. before q.booked.job.key a) ps ≡ []
 none_before a [] h = refl
 none_before a (p ∷ ps) h =
-    let both = both_true (before a p.booked.job.key) (list_all (λ q. before a q.booked.job.key) ps) h in
+    let both = and_parts (before a p.booked.job.key) (list_all (λ q. before a q.booked.job.key) ps) h in
     rw (not_after a p.booked.job.key both.0) (none_before a ps both.1)
 
 all_after : (a : Numbered) (ps : List Placed) → AllBehind a ps → filter (λ q. before a q.booked.job.key) ps ≡ ps
 all_after a [] h = refl
 all_after a (p ∷ ps) h =
-    let both = both_true (before a p.booked.job.key) (list_all (λ q. before a q.booked.job.key) ps) h in
+    let both = and_parts (before a p.booked.job.key) (list_all (λ q. before a q.booked.job.key) ps) h in
     rw both.0 (ap (λ qs. p ∷ qs) (all_after a ps both.1))
 
 behind_trans : (a b : Numbered) (ps : List Placed) → before a b ≡ true → AllBehind b ps → AllBehind a ps
 behind_trans a b [] lt h = refl
 behind_trans a b (p ∷ ps) lt h =
-    let both = both_true (before b p.booked.job.key) (list_all (λ q. before b q.booked.job.key) ps) h in
-    and_from (before a p.booked.job.key) (list_all (λ q. before a q.booked.job.key) ps) (before_trans a b p.booked.job.key lt both.0) (behind_trans a b ps lt both.1)
+    let both = and_parts (before b p.booked.job.key) (list_all (λ q. before b q.booked.job.key) ps) h in
+    and_from (before a p.booked.job.key) (list_all (λ q. before a q.booked.job.key) ps) (before_both a b p.booked.job.key lt both.0) (behind_trans a b ps lt both.1)
 
 abbrev is_in_order : List Placed → Bool
 is_in_order [] = true
@@ -80,8 +60,8 @@ IsInOrder ps = is_in_order ps ≡ true
 put_first : (x h : Placed) (ps : List Placed) → x.booked.job.key ≡ h.booked.job.key → AllBehind h.booked.job.key ps → put_placed (h ∷ ps) x ≡ x ∷ ps
 put_first x h ps e all =
     let behind : AllBehind x.booked.job.key ps = subst (λ i. AllBehind i ps) (sym e) all in
-    let no : before h.booked.job.key x.booked.job.key ≡ false = subst (λ i. before h.booked.job.key i ≡ false) (sym e) (not_itself h.booked.job.key) in
-    let nor : before x.booked.job.key h.booked.job.key ≡ false = subst (λ i. before i h.booked.job.key ≡ false) (sym e) (not_itself h.booked.job.key) in
+    let no : before h.booked.job.key x.booked.job.key ≡ false = subst (λ i. before h.booked.job.key i ≡ false) (sym e) (before-irrefl h.booked.job.key) in
+    let nor : before x.booked.job.key h.booked.job.key ≡ false = subst (λ i. before i h.booked.job.key ≡ false) (sym e) (before-irrefl h.booked.job.key) in
     rw (no, nor, none_before x.booked.job.key ps behind, all_after x.booked.job.key ps behind) refl
 
 put_later : (x h : Placed) (ps : List Placed) → before h.booked.job.key x.booked.job.key ≡ true → put_placed (h ∷ ps) x ≡ h ∷ put_placed ps x
@@ -99,14 +79,14 @@ all_put a x [] lt h o = and_from (before a x.booked.job.key) true lt refl
 all_put a x (p ∷ ps) lt h o = by (before p.booked.job.key x.booked.job.key) refl (same p.booked.job.key x.booked.job.key) refl (all_put a x ps lt)
   where
     both : AllBehind p.booked.job.key ps × IsInOrder ps
-    both = both_true (list_all (λ q. before p.booked.job.key q.booked.job.key) ps) (is_in_order ps) o
+    both = and_parts (list_all (λ q. before p.booked.job.key q.booked.job.key) ps) (is_in_order ps) o
 
     two : (before a p.booked.job.key ≡ true) × AllBehind a ps
-    two = both_true (before a p.booked.job.key) (list_all (λ q. before a q.booked.job.key) ps) h
+    two = and_parts (before a p.booked.job.key) (list_all (λ q. before a q.booked.job.key) ps) h
 
     by : (b : Bool) → before p.booked.job.key x.booked.job.key ≡ b → (c : Bool) → same p.booked.job.key x.booked.job.key ≡ c → (AllBehind a ps → IsInOrder ps → AllBehind a (put_placed ps x)) → AllBehind a (put_placed (p ∷ ps) x)
     by true e c t ih = rw (put_later x p ps e) (and_from (before a p.booked.job.key) (list_all (λ q. before a q.booked.job.key) (put_placed ps x)) two.0 (ih two.1 both.1))
-    by false e true t ih = rw (put_first x p ps (sym (same_is p.booked.job.key x.booked.job.key t)) both.0) (and_from (before a x.booked.job.key) (list_all (λ q. before a q.booked.job.key) ps) lt two.1)
+    by false e true t ih = rw (put_first x p ps (sym (same-is p.booked.job.key x.booked.job.key t)) both.0) (and_from (before a x.booked.job.key) (list_all (λ q. before a q.booked.job.key) ps) lt two.1)
     by false e false t ih = rw (put_before x p ps (else_after p.booked.job.key x.booked.job.key e t) both.0) (and_from (before a x.booked.job.key) (list_all (λ q. before a q.booked.job.key) (p ∷ ps)) lt h)
 
 pub put_in_order : (x : Placed) (ps : List Placed) → IsInOrder ps → IsInOrder (put_placed ps x)
@@ -114,11 +94,11 @@ put_in_order x [] o = refl
 put_in_order x (p ∷ ps) o = by (before p.booked.job.key x.booked.job.key) refl (same p.booked.job.key x.booked.job.key) refl (put_in_order x ps)
   where
     both : AllBehind p.booked.job.key ps × IsInOrder ps
-    both = both_true (list_all (λ q. before p.booked.job.key q.booked.job.key) ps) (is_in_order ps) o
+    both = and_parts (list_all (λ q. before p.booked.job.key q.booked.job.key) ps) (is_in_order ps) o
 
     by : (b : Bool) → before p.booked.job.key x.booked.job.key ≡ b → (c : Bool) → same p.booked.job.key x.booked.job.key ≡ c → (IsInOrder ps → IsInOrder (put_placed ps x)) → IsInOrder (put_placed (p ∷ ps) x)
     by true e c t ih = rw (put_later x p ps e) (and_from (list_all (λ q. before p.booked.job.key q.booked.job.key) (put_placed ps x)) (is_in_order (put_placed ps x)) (all_put p.booked.job.key x ps e both.0 both.1) (ih both.1))
-    by false e true t ih = rw (put_first x p ps (sym (same_is p.booked.job.key x.booked.job.key t)) both.0) (and_from (list_all (λ q. before x.booked.job.key q.booked.job.key) ps) (is_in_order ps) (subst (λ i. AllBehind i ps) (same_is p.booked.job.key x.booked.job.key t) both.0) both.1)
+    by false e true t ih = rw (put_first x p ps (sym (same-is p.booked.job.key x.booked.job.key t)) both.0) (and_from (list_all (λ q. before x.booked.job.key q.booked.job.key) ps) (is_in_order ps) (subst (λ i. AllBehind i ps) (same-is p.booked.job.key x.booked.job.key t) both.0) both.1)
     by false e false t ih = rw (put_before x p ps (else_after p.booked.job.key x.booked.job.key e t) both.0) (and_from (list_all (λ q. before x.booked.job.key q.booked.job.key) (p ∷ ps)) (is_in_order (p ∷ ps)) (and_from (before x.booked.job.key p.booked.job.key) (list_all (λ q. before x.booked.job.key q.booked.job.key) ps) (else_after p.booked.job.key x.booked.job.key e t) (behind_trans x.booked.job.key p.booked.job.key ps (else_after p.booked.job.key x.booked.job.key e t) both.0)) o)
 
 -- the same in a map by keys
@@ -136,7 +116,7 @@ put_entry x [] o = refl
 put_entry x (p ∷ ps) o = by (before p.booked.job.key x.booked.job.key) refl (same p.booked.job.key x.booked.job.key) refl (put_entry x ps)
   where
     both : AllBehind p.booked.job.key ps × IsInOrder ps
-    both = both_true (list_all (λ q. before p.booked.job.key q.booked.job.key) ps) (is_in_order ps) o
+    both = and_parts (list_all (λ q. before p.booked.job.key q.booked.job.key) ps) (is_in_order ps) o
 
     by : (b : Bool) → before p.booked.job.key x.booked.job.key ≡ b → (c : Bool) → same p.booked.job.key x.booked.job.key ≡ c
         → (IsInOrder ps → map keyed (put_placed ps x) ≡ insert_entry key_cmp (map keyed ps) x.booked.job.key (held_task x))
@@ -145,7 +125,7 @@ put_entry x (p ∷ ps) o = by (before p.booked.job.key x.booked.job.key) refl (s
         ap (map keyed) (put_later x p ps e) ∙ ap (λ es. keyed p ∷ es) (ih both.1)
         ∙ sym (put_entry_as x p ps Greater (greater_is x.booked.job.key p.booked.job.key e))
     by false e true t ih =
-        let is : p.booked.job.key ≡ x.booked.job.key = same_is p.booked.job.key x.booked.job.key t in
+        let is : p.booked.job.key ≡ x.booked.job.key = same-is p.booked.job.key x.booked.job.key t in
         ap (map keyed) (put_first x p ps (sym is) both.0) ∙ ap (λ k. (k, held_task x) ∷ map keyed ps) (sym is)
         ∙ sym (put_entry_as x p ps Equal (subst (λ k. key_cmp k p.booked.job.key ≡ Equal) is (equal_is p.booked.job.key)))
     by false e false t ih =

@@ -17,10 +17,11 @@ use Rattle.messages.specs.declared.events.StreamEvent.{StreamEvent}
 use Rattle.master_state.specs.States.{task_state_sent}
 use Rattle.master_state.specs.Works.{admission, done, master_of, work_of}
 use Rattle.master_state.proofs.Admissions.{Admitted, admits}
-use Rattle.master_state.proofs.Doings.{none_more, says}
+use Rattle.master_state.proofs.Doings.{says}
 use Rattle.master_calls.specs.Tasks.{held_task}
 use Rattle.master_calls.specs.Reconciles.{gathers, key_cmp, live_of, reconciled, reconciled_as, reconciled_one, sends_held}
 use Rattle.master_calls.proofs.Placing.{IsInOrder, keyed, put_entry, put_in_order}
+use Rattle.std.proofs.lemmas.List.{append-nil}
 
 -- events
 
@@ -51,12 +52,12 @@ tells_as s ts stream f asked e (Some p) = events_to s ts stream f p.booked.job.n
 tells_as s ts stream f asked e None = by (is_awaited (master_of s) asked.agent)
   where
     by : (b : Bool) → cond b (telling s ts) (task_state_sent stream asked.name Lost asked.agent (telling s ts)) ≡ telling s (ts ++ cond b [] (answers f asked.name Lost asked.agent))
-    by true = ap (telling s) (sym (none_more ts))
+    by true = ap (telling s) (sym (append-nil ts))
     by false = events_to s ts stream f asked.name Lost asked.agent e
 
 tells_each : (s : State) (ts : List StreamEvent) (stream : Numbered) (f : Framework) (asked : List ReconciledTask) → f.stream ≡ Some stream
     → fold (reconciled_one f.id stream) (telling s ts) asked ≡ telling s (ts ++ flat_map (reconciles (master_of s) f) asked)
-tells_each s ts stream f [] e = ap (telling s) (sym (none_more ts))
+tells_each s ts stream f [] e = ap (telling s) (sym (append-nil ts))
 tells_each s ts stream f (a ∷ asked) e =
     ap (λ (u : State). fold (reconciled_one f.id stream) u asked) (tells_as s ts stream f a e (held (master_of s) f.id a.name))
     ∙ tells_each s (ts ++ reconciles (master_of s) f a) stream f asked e
@@ -66,7 +67,7 @@ tells_each s ts stream f (a ∷ asked) e =
 
 tells_live : (s : State) (ts : List StreamEvent) (stream : Numbered) (f : Framework) (ps : List Placed) → f.stream ≡ Some stream
     → fold (sends_held stream) (telling s ts) (map held_task ps) ≡ telling s (ts ++ flat_map (answers_held f) ps)
-tells_live s ts stream f [] e = ap (telling s) (sym (none_more ts))
+tells_live s ts stream f [] e = ap (telling s) (sym (append-nil ts))
 tells_live s ts stream f (p ∷ ps) e =
     ap (λ (u : State). fold (sends_held stream) u (map held_task ps)) (events_to s ts stream f p.booked.job.name p.booked.state (Some p.agent) e)
     ∙ tells_live s (ts ++ answers_held f p) stream f ps e
@@ -99,7 +100,7 @@ abbrev events_of : Master → Framework → List ReconciledTask → List StreamE
 events_of m f asked = (on_reconcile m asked f).events
 
 tells_nothing : (s : State) → s ≡ telling s []
-tells_nothing s = ap (with_raw_events s) (sym (none_more s.outs.events))
+tells_nothing s = ap (with_raw_events s) (sym (append-nil s.outs.events))
 
 events_to_all : (s : State) (stream : Numbered) (f : Framework) (asked : List ReconciledTask) → f.stream ≡ Some stream → reconciled f.id stream asked s ≡ telling s (events_of (master_of s) f asked)
 events_to_all s stream f [] e =

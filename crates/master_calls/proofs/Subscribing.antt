@@ -11,9 +11,9 @@ use Rattle.master_agents.specs.Looks.{withdrawing}
 use Rattle.master_state.specs.declared.state.State.{State}
 use Rattle.messages.specs.declared.events.StreamEvent.{StreamEvent}
 use Rattle.master_state.specs.Works.{Work, done, master_of, registers_of, run_of, work_of}
-use Rattle.master_state.proofs.Doings.{none_more}
 use Rattle.master_state.proofs.Moves.{all_withdrawn, moved_so}
 use Rattle.master_calls.specs.Streams.{entered, left, resubscribed_as, subscribed_on}
+use Rattle.std.proofs.lemmas.List.{append-nil}
 
 append_twice : {A : Type 0} (xs : List A) (y z : A) → (xs ++ y ∷ []) ++ z ∷ [] ≡ xs ++ y ∷ z ∷ []
 append_twice [] y z = refl
@@ -38,7 +38,7 @@ pub entered_so : (s : State) (id : Numbered) (role : List ℕ) (known : Option N
     → work_of (entered id role (left known s)) ≡ done (subscribed_on (master_of s) (registers_of s) id role known) (work_of s)
 entered_so s id role None ordered =
     ap (λ x. entered_work s id role x (news s id None) s.outs.closed) (withdrawn_so s id ordered)
-    ∙ ap (λ cs. entered_work s id role (move_all (withdraws (is_of id) (master_of s)) (moved_so (run_of s) s.sides s.outs.mails)) (news s id None) cs) (sym (none_more s.outs.closed))
+    ∙ ap (λ cs. entered_work s id role (move_all (withdraws (is_of id) (master_of s)) (moved_so (run_of s) s.sides s.outs.mails)) (news s id None) cs) (sym (append-nil s.outs.closed))
 entered_so s id role (Some stream) ordered =
     ap (λ x. entered_work s id role x ((s.outs.events ++ first ∷ []) ++ second ∷ []) (s.outs.closed ++ stream ∷ [])) (withdrawn_so s id ordered)
     ∙ ap (λ es. entered_work s id role (move_all (withdraws (is_of id) (master_of s)) (moved_so (run_of s) s.sides s.outs.mails)) es (s.outs.closed ++ stream ∷ [])) (append_twice s.outs.events first second)

@@ -9,10 +9,7 @@ use Rattle.messages.specs.declared.task.Job.{Job}
 use Rattle.cluster_model.specs.Sides.{unended, job_rows, offer_rows, received_update}
 use Rattle.offer_book.specs.Changes.{ended}
 use Rattle.master_core.specs.Ending.{FreesAsEnding}
-
-or_true : (e : Bool) → (e || true) ≡ true
-or_true true = refl
-or_true false = refl
+use Rattle.std.proofs.Math.Bool.{or-true}
 
 same_unended : (key : Numbered) (k : ℕ) (state : TaskState) (bs : List Booked) → unended (map (received_update key k state true) bs) ≡ unended (map (ended key) bs)
 same_unended key k state [] = refl
@@ -31,7 +28,7 @@ same_unended key k state (b ∷ bs) = by (same b.job.key key) (same_unended key 
 
     by : (c : Bool) → unended (map (received_update key k state true) bs) ≡ unended (map (ended key) bs)
         → unended (cond c received b ∷ map (received_update key k state true) bs) ≡ unended (cond c over b ∷ map (ended key) bs)
-    by true rest = rw (or_true b.ended) rest
+    by true rest = rw (or-true b.ended) rest
     by false rest = ap (λ (js : List Job). cond b.ended js (b.job ∷ js)) rest
 
 pub frees_as_ending : FreesAsEnding

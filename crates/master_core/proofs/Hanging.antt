@@ -16,25 +16,17 @@ use Rattle.master_state.specs.declared.state.State.{State}
 use Rattle.messages.specs.declared.events.StreamEvent.{StreamEvent}
 use Rattle.master_state.specs.States.{closed, without_offers}
 use Rattle.master_state.specs.Works.{Work, done, master_of, run_of, work_of}
-use Rattle.master_state.proofs.Doings.{none_more}
 use Rattle.master_state.proofs.Moves.{all_withdrawn, moved_so}
-
-both_true : (x y : Bool) → (x && y) ≡ true → (x ≡ true) × (y ≡ true)
-both_true true y e = (refl, e)
-both_true false y e = absurd cc
-
-itself : (a : Numbered) → same a a ≡ true
-itself a = grind (arith, nat_tests)
-
-differ : (a b : Numbered) → before a b ≡ true → same a b ≡ false
-differ a b h = grind (arith, nat_tests)
+use Rattle.names_core.proofs.IdOrder.{same_itself, sooner_differs}
+use Rattle.std.proofs.lemmas.Bool.{and_parts}
+use Rattle.std.proofs.lemmas.List.{append-nil}
 
 found_behind : (a : Numbered) (test : Framework → Bool) (fs : List Framework) (f : Framework) → AllBehind a fs → find test fs ≡ Some f → before a f.id ≡ true
 found_behind a test [] f h e = absurd cc
 found_behind a test (g ∷ gs) f h e = by (test g) refl (found_behind a test gs f both.1)
   where
     both : (before a g.id ≡ true) × AllBehind a gs
-    both = both_true (before a g.id) (list_all (λ x. before a x.id) gs) h
+    both = and_parts (before a g.id) (list_all (λ x. before a x.id) gs) h
 
     by : (b : Bool) → test g ≡ b → (find test gs ≡ Some f → before a f.id ≡ true) → before a f.id ≡ true
     by true s ih =
@@ -49,17 +41,17 @@ found_alone test [] f o e = absurd cc
 found_alone test (g ∷ gs) f o e = by (test g) refl (found_alone test gs f both.1)
   where
     both : AllBehind g.id gs × (frameworks.are_ordered gs ≡ true)
-    both = both_true (list_all (λ x. before g.id x.id) gs) (frameworks.are_ordered gs) o
+    both = and_parts (list_all (λ x. before g.id x.id) gs) (frameworks.are_ordered gs) o
 
     by : (b : Bool) → test g ≡ b → (find test gs ≡ Some f → with_id f.id gs ≡ Some f) → with_id f.id (g ∷ gs) ≡ Some f
     by true s ih =
         let is : ◌≡◌ {A = Option Framework} (Some g) (Some f) = rw s at e in
         let one : g ≡ f = cc in
-        let first : with_id g.id (g ∷ gs) ≡ Some g = rw (itself g.id) refl in
+        let first : with_id g.id (g ∷ gs) ≡ Some g = rw (same_itself g.id) refl in
         subst (λ (x : Framework). with_id x.id (g ∷ gs) ≡ Some x) one first
     by false s ih =
         let rest : find test gs ≡ Some f = rw s at e in
-        rw (differ g.id f.id (found_behind g.id test gs f both.0 rest)) (ih rest)
+        rw (sooner_differs g.id f.id (found_behind g.id test gs f both.0 rest)) (ih rest)
 
 abbrev pub after_hang_up : Numbered → Numbered → State → State
 after_hang_up stream id s = closed stream (record (without_offers (is_of id) s) { frameworks = map (changed without_stream id) s.frameworks })
@@ -78,8 +70,8 @@ hung_of : (s : State) (stream : Numbered) (f : Framework) → with_id f.id s.fra
 hung_of s stream f known ordered names =
     ap (λ x. hung_work s stream x (map (changed without_stream f.id) s.frameworks) s.outs.events s.outs.opened) (sym (all_withdrawn (is_of f.id) s.sides (run_of s) s.outs.mails names))
     ∙ ap (λ fs. hung_work s stream (moves (is_of f.id)) fs s.outs.events s.outs.opened) (sym (put_changed without_stream s.frameworks f.id f (λ _. refl) ordered known))
-    ∙ ap (λ es. hung_work s stream (moves (is_of f.id)) (put_framework (without_stream f) s.frameworks) es s.outs.opened) (sym (none_more s.outs.events))
-    ∙ ap (λ os. hung_work s stream (moves (is_of f.id)) (put_framework (without_stream f) s.frameworks) (s.outs.events ++ []) os) (sym (none_more s.outs.opened))
+    ∙ ap (λ es. hung_work s stream (moves (is_of f.id)) (put_framework (without_stream f) s.frameworks) es s.outs.opened) (sym (append-nil s.outs.events))
+    ∙ ap (λ os. hung_work s stream (moves (is_of f.id)) (put_framework (without_stream f) s.frameworks) (s.outs.events ++ []) os) (sym (append-nil s.outs.opened))
   where
     moves : (Rattle.messages.specs.declared.task.Offer.Offer → Bool) → Moved
     moves test = move_all (withdraws test (master_of s)) (moved_so (run_of s) s.sides s.outs.mails)

@@ -19,12 +19,13 @@ use Rattle.master_agents.specs.Looks.{at_name, value_of}
 use Rattle.master_state.specs.declared.state.State.{State}
 use Rattle.master_state.specs.Greetings.{greeted}
 use Rattle.master_state.specs.Works.{Work, done, master_of, run_of, work_of}
-use Rattle.master_state.proofs.Doings.{none_more, nothing_done, says}
+use Rattle.master_state.proofs.Doings.{nothing_done, says}
 use Rattle.master_state.proofs.Greeting.{greets}
 use Rattle.master_core.specs.MailingSteps.{Answered, having_received, turned_away, with_more_events}
 use Rattle.master_agents.specs.Named.{mailed_by}
 use Rattle.master_core.specs.Sending.{news}
 use Rattle.master_core.proofs.Naming.{found_in, found_named, receives_at, told_as}
+use Rattle.std.proofs.lemmas.List.{append-nil}
 
 abbrev judges : Run → AgentMail → Side → Option MasterRefusal
 judges run mail t = judged run t mail
@@ -83,10 +84,10 @@ refusal_told m t mail NoSuchFramework = refl
 refusal_told m t mail LimitExceeded = refl
 
 greets_done : (s : State) (name : List ℕ) (r : MasterRefusal) → work_of (greeted name s) ≡ done (record { refusal = Some r; moves = AtSide name SendHello ∷ []; events = []; opens = []; closes = []; registers = (master_of s).registers }) (work_of s)
-greets_done s name r = greets name s ∙ rw (none_more s.outs.events, none_more s.outs.opened, none_more s.outs.closed) refl
+greets_done s name r = greets name s ∙ rw (append-nil s.outs.events, append-nil s.outs.opened, append-nil s.outs.closed) refl
 
 away_done : (s : State) (t : Side) (mail : AgentMail) (r : MasterRefusal) → work_of (turned_away t.name r s) ≡ done (mailed_as (master_of s) t mail (Some r)) (work_of s)
-away_done s t mail OtherRun = rw (none_more s.outs.events, none_more s.outs.opened, none_more s.outs.closed) refl
+away_done s t mail OtherRun = rw (append-nil s.outs.events, append-nil s.outs.opened, append-nil s.outs.closed) refl
 away_done s t mail OldSession = greets_done s t.name OldSession
 away_done s t mail Closed = greets_done s t.name Closed
 away_done s t mail NotOpen = greets_done s t.name NotOpen

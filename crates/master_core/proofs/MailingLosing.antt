@@ -10,11 +10,12 @@ use Rattle.master_agents.specs.Looks.{value_of}
 use Rattle.master_state.specs.declared.state.State.{State}
 use Rattle.messages.specs.declared.events.StreamEvent.{StreamEvent}
 use Rattle.master_state.specs.Works.{Work, done, master_of, registers_of, work_of}
-use Rattle.master_state.proofs.Doings.{none_more, nothing_done, with_moves}
+use Rattle.master_state.proofs.Doings.{nothing_done, with_moves}
 use Rattle.master_state.proofs.Greeting.{changes_silently, greets}
 use Rattle.master_core.specs.MailingSteps.{left, rescinded, with_failures, with_losses, with_lost, without_filters}
 use Rattle.master_agents.specs.Named.{lost_by}
 use Rattle.master_core.proofs.Naming.{found_in, found_named, told_as}
+use Rattle.std.proofs.lemmas.List.{append-nil}
 
 -- events that are told one list after the other
 abbrev lost_doing : Master → Side → MasterEffect
@@ -42,8 +43,8 @@ lost_so : (s : State) (t : Side) → found_in t.name s.sides ≡ Some t → work
 lost_so s t is =
     moves_so t.name s
     ∙ ap (λ es. left_work s t.name es s.outs.opened s.outs.closed) events
-    ∙ ap (λ os. left_work s t.name (s.outs.events ++ (lost_doing (master_of s) t).events) os s.outs.closed) (sym (none_more s.outs.opened))
-    ∙ ap (λ cs. left_work s t.name (s.outs.events ++ (lost_doing (master_of s) t).events) (s.outs.opened ++ []) cs) (sym (none_more s.outs.closed))
+    ∙ ap (λ os. left_work s t.name (s.outs.events ++ (lost_doing (master_of s) t).events) os s.outs.closed) (sym (append-nil s.outs.opened))
+    ∙ ap (λ cs. left_work s t.name (s.outs.events ++ (lost_doing (master_of s) t).events) (s.outs.opened ++ []) cs) (sym (append-nil s.outs.closed))
   where
     offers : value_of t.name (λ x. x.offers) [] s.sides ≡ t.offers
     offers = told_as t.name (λ x. x.offers) [] s.sides (Some t) is

@@ -6,6 +6,7 @@ use Rattle.messages.specs.declared.mail.AgentMail.{AgentMail}
 use Rattle.cluster_model.specs.Mails.{receive_at}
 use Rattle.cluster_model.specs.Sides.{Run, Side, received}
 use Rattle.master_agents.specs.Looks.{at_name, value_of}
+use Rattle.names_core.proofs.Lists.{bytes_eq-is}
 
 abbrev pub found_in : List ℕ → List Side → Option Side
 found_in name ss = find (λ s. bytes_eq s.name name) ss
@@ -28,14 +29,6 @@ told_as name send_event none ss o e = told_found name send_event none ss ∙ ap 
 parts : (x y : ℕ) (b : Bool) → (x == y && b) ≡ true → (x ≡ y) × (b ≡ true)
 parts x y b h = grind (arith, nat_tests)
 
-pub alike : (xs ys : List ℕ) → bytes_eq xs ys ≡ true → xs ≡ ys
-alike [] [] h = refl
-alike [] (y ∷ ys) h = absurd (true≢false (sym h))
-alike (x ∷ xs) [] h = absurd (true≢false (sym h))
-alike (x ∷ xs) (y ∷ ys) h =
-    let both = parts x y (bytes_eq xs ys) h in
-    ap (λ n. n ∷ xs) both.0 ∙ ap (λ ns. y ∷ ns) (alike xs ys both.1)
-
 pub found_named : (name : List ℕ) (ss : List Side) (s : Side) → found_in name ss ≡ Some s → s.name ≡ name
 found_named name [] s e = absurd cc
 found_named name (t ∷ ts) s e = by (bytes_eq t.name name) refl (found_named name ts s)
@@ -44,7 +37,7 @@ found_named name (t ∷ ts) s e = by (bytes_eq t.name name) refl (found_named na
     by true h ih =
         let is : ◌≡◌ {A = Option Side} (Some t) (Some s) = rw h at e in
         let one : t ≡ s = cc in
-        subst (λ (x : Side). x.name ≡ name) one (alike t.name name h)
+        subst (λ (x : Side). x.name ≡ name) one (bytes_eq-is t.name name h)
     by false h ih = ih (rw h at e)
 
 -- the side of an agent hears a mail

@@ -21,16 +21,14 @@ use Rattle.master_state.specs.declared.state.State.{State}
 use Rattle.messages.specs.declared.events.StreamEvent.{StreamEvent}
 use Rattle.master_state.specs.States.{ordered_as}
 use Rattle.master_state.specs.Works.{Work, done, master_of, registers_of, run_of, work_of}
-use Rattle.master_state.proofs.Doings.{none_more, with_moves}
+use Rattle.master_state.proofs.Doings.{with_moves}
 use Rattle.master_state.proofs.Moves.{commanded, mails_of, moved_so}
 use Rattle.master_core.specs.MailingSteps.{ending, ends_of, having_received, rescinded, session_opened, with_losses, with_report, without_filters}
 use Rattle.master_core.specs.Sending.{loss_of, lost_event}
 use Rattle.master_core.proofs.MailLemmas.{AnsweredSo, report_doing, reports}
 use Rattle.master_core.proofs.Naming.{found_in, found_named, receives_at, told_as}
-
-both_true : (x y : Bool) → (x && y) ≡ true → (x ≡ true) × (y ≡ true)
-both_true true y e = (refl, e)
-both_true false y e = absurd cc
+use Rattle.std.proofs.lemmas.Bool.{and_parts}
+use Rattle.std.proofs.lemmas.List.{append-nil}
 
 -- tasks of frameworks that were torn down are to end
 
@@ -39,7 +37,7 @@ with_moved x w = record { moved = x; registers = w.registers; events = w.events;
 
 ordered_moves : (s : State) (name : List ℕ) (command : Command) (next : Option (ℕ × ℕ))
     → work_of (ordered_as name command next s) ≡ with_moved (moved_so (run_of s) (at_name name (with_command command) s.sides) (s.outs.mails ++ mails_of name command next)) (work_of s)
-ordered_moves s name command None = ap (λ mails. with_moved (moved_so (run_of s) (at_name name (with_command command) s.sides) mails) (work_of s)) (sym (none_more s.outs.mails))
+ordered_moves s name command None = ap (λ mails. with_moved (moved_so (run_of s) (at_name name (with_command command) s.sides) mails) (work_of s)) (sym (append-nil s.outs.mails))
 ordered_moves s name command (Some next) = refl
 
 end_so : (name : List ℕ) (s : State) (id : Numbered) → is_among s.torn id ≡ true → work_of (ending name s id) ≡ with_moves (AtSide name (SendEnd id) ∷ []) (work_of s)
@@ -60,7 +58,7 @@ ends name ids = map (λ id. AtSide name (SendEnd id)) ids
 all_ended : (name : List ℕ) (ids : List Numbered) (s : State) → list_all (is_among s.torn) ids ≡ true → work_of (fold (ending name) s ids) ≡ with_moves (ends name ids) (work_of s)
 all_ended name [] s torn = refl
 all_ended name (id ∷ ids) s torn =
-    let both = both_true (is_among s.torn id) (list_all (is_among s.torn) ids) torn in
+    let both = and_parts (is_among s.torn id) (list_all (is_among s.torn) ids) torn in
     let later : list_all (is_among (ending name s id).torn) ids ≡ true = ap (λ ts. list_all (is_among ts) ids) (torn_stays name s (EndFramework id) (value_of name next_command None s.sides)) ∙ both.1 in
     all_ended name ids (ending name s id) later
     ∙ ap (with_moves (ends name ids)) (end_so name s id both.0)
@@ -71,7 +69,7 @@ all_torn m tasks (f ∷ fs) = by (is_to_end m tasks f) refl (all_torn m tasks fs
   where
     by : (b : Bool) → is_to_end m tasks f ≡ b → list_all (is_among m.run.torn) (map (λ g. g.id) (filter (is_to_end m tasks) fs)) ≡ true
         → list_all (is_among m.run.torn) (map (λ g. g.id) (cond b (f ∷ filter (is_to_end m tasks) fs) (filter (is_to_end m tasks) fs))) ≡ true
-    by true e ih = and_from (is_among m.run.torn f.id) (list_all (is_among m.run.torn) (map (λ g. g.id) (filter (is_to_end m tasks) fs))) (both_true (is_among m.run.torn f.id) (list_any (λ t. same t.job.framework f.id) tasks) e).0 ih
+    by true e ih = and_from (is_among m.run.torn f.id) (list_all (is_among m.run.torn) (map (λ g. g.id) (filter (is_to_end m tasks) fs))) (and_parts (is_among m.run.torn f.id) (list_any (λ t. same t.job.framework f.id) tasks) e).0 ih
     by false e ih = ih
 
 moves_alike : (name : List ℕ) (fs : List Framework) → ends name (map (λ f. f.id) fs) ≡ map (λ f. AtSide name (SendEnd f.id)) fs
@@ -112,8 +110,8 @@ opened_of s session number tasks total t is =
     ∙ ap (λ ss. reported_work s t.name ss (ends t.name (ends_of tasks s)) (work_of (before_ends t.name session number tasks total s)).events s.outs.opened s.outs.closed) (sym (receives_at t.name (run_of s) (Report session number tasks total) s.sides))
     ∙ ap (λ ms. reported_work s t.name sides ms (work_of (before_ends t.name session number tasks total s)).events s.outs.opened s.outs.closed) (moves_alike t.name (filter (is_to_end (master_of s) tasks) s.frameworks))
     ∙ ap (λ es. reported_work s t.name sides moves es s.outs.opened s.outs.closed) events
-    ∙ ap (λ os. reported_work s t.name sides moves (s.outs.events ++ (session_opens (master_of s) t tasks).events) os s.outs.closed) (sym (none_more s.outs.opened))
-    ∙ ap (λ cs. reported_work s t.name sides moves (s.outs.events ++ (session_opens (master_of s) t tasks).events) (s.outs.opened ++ []) cs) (sym (none_more s.outs.closed))
+    ∙ ap (λ os. reported_work s t.name sides moves (s.outs.events ++ (session_opens (master_of s) t tasks).events) os s.outs.closed) (sym (append-nil s.outs.opened))
+    ∙ ap (λ cs. reported_work s t.name sides moves (s.outs.events ++ (session_opens (master_of s) t tasks).events) (s.outs.opened ++ []) cs) (sym (append-nil s.outs.closed))
   where
     sides : List Side
     sides = (having_received t.name (Report session number tasks total) (work_of s)).moved.sides

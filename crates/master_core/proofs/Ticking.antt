@@ -19,29 +19,21 @@ use Rattle.master_agents.specs.ByName.{addressed, again_of, mails_at_tick, oldes
 use Rattle.master_state.specs.declared.state.State.{State}
 use Rattle.messages.specs.declared.events.StreamEvent.{StreamEvent}
 use Rattle.master_state.specs.Works.{Work, done, master_of, run_of, work_of}
-use Rattle.master_state.proofs.Doings.{none_more}
-use Rattle.master_state.proofs.Moves.{before_differs, moved_so}
-
-both_true : (x y : Bool) → (x && y) ≡ true → (x ≡ true) × (y ≡ true)
-both_true true y e = (refl, e)
-both_true false y e = absurd cc
-
-itself : (xs : List ℕ) → bytes_eq xs xs ≡ true
-itself [] = refl
-itself (x ∷ xs) = step x (bytes_eq xs xs) (itself xs)
-  where
-    step : (n : ℕ) (b : Bool) → b ≡ true → (n == n && b) ≡ true
-    step n b h = grind (arith, nat_tests)
+use Rattle.master_state.proofs.Moves.{moved_so}
+use Rattle.cluster_model.proofs.Chains.{other_names}
+use Rattle.names_core.proofs.Lists.{bytes_eq-refl}
+use Rattle.std.proofs.lemmas.Bool.{and_parts}
+use Rattle.std.proofs.lemmas.List.{append-nil}
 
 -- moves at sides that stand behind a side leave it
 pass_all : (s : Side) (ts : List Side) (x : Moved) → list_all (bytes_before s.name) (side_names ts) ≡ true → move_all (map ticks ts) (past_side s x) ≡ past_side s (move_all (map ticks ts) x)
 pass_all s [] x behind = refl
 pass_all s (t ∷ ts) x behind =
-    let both = both_true (bytes_before s.name t.name) (list_all (bytes_before s.name) (side_names ts)) behind in
+    let both = and_parts (bytes_before s.name t.name) (list_all (bytes_before s.name) (side_names ts)) behind in
     ap (move_all (map ticks ts)) (other both.0) ∙ pass_all s ts (move x (ticks t)) both.1
   where
     other : bytes_before s.name t.name ≡ true → move (past_side s x) (ticks t) ≡ past_side s (move x (ticks t))
-    other lt = rw (before_differs s.name t.name lt) refl
+    other lt = rw (other_names s.name t.name lt) refl
 
 abbrev listed : Option MasterMail → List MasterMail
 listed None = []
@@ -73,14 +65,14 @@ step_is s run = by s.is_open refl
 
 here : (s : Side) (ss : List Side) (run : Run) (sent : List ToAgent) → move (moved_so run (s ∷ ss) sent) (ticks s) ≡ past_side s (moved_so run ss (sent ++ mails_at_tick run.number s))
 here s ss run sent =
-    rw (itself s.name)
+    rw (bytes_eq-refl s.name)
     (ap (λ x. sending_more sent (at_this_side s.name x ss)) (step_is s run)
     ∙ ap (λ mails. past_side s (moved_so run ss (sent ++ mails))) (addresses s.name (again_of run.number s)))
 
 pub all_ticked : (ss : List Side) (run : Run) (sent : List ToAgent) → are_ordered (side_names ss) ≡ true → move_all (map ticks ss) (moved_so run ss sent) ≡ moved_so run ss (sent ++ flat_map (mails_at_tick run.number) ss)
-all_ticked [] run sent ordered = ap (moved_so run []) (sym (none_more sent))
+all_ticked [] run sent ordered = ap (moved_so run []) (sym (append-nil sent))
 all_ticked (s ∷ ss) run sent ordered =
-    let both = both_true (list_all (bytes_before s.name) (side_names ss)) (are_ordered (side_names ss)) ordered in
+    let both = and_parts (list_all (bytes_before s.name) (side_names ss)) (are_ordered (side_names ss)) ordered in
     ap (move_all (map ticks ss)) (here s ss run sent)
     ∙ pass_all s ss (moved_so run ss (sent ++ mails_at_tick run.number s)) both.0
     ∙ ap (past_side s) (all_ticked ss run (sent ++ mails_at_tick run.number s) both.1)
@@ -103,5 +95,5 @@ pub ticked_so : (s : State) (now : ℕ) → are_ordered (side_names s.sides) ≡
     ≡ done (ticked (master_of s) now) (work_of s)
 ticked_so s now ordered =
     ap (λ x. ticked_work s now (map (after_heartbeat now) s.frameworks) (ticked_events s now) x s.outs.opened s.outs.closed) (sym (all_ticked s.sides (run_of s) s.outs.mails ordered))
-    ∙ ap (λ os. ticked_work s now (map (after_heartbeat now) s.frameworks) (ticked_events s now) (move_all (map ticks s.sides) (moved_so (run_of s) s.sides s.outs.mails)) os s.outs.closed) (sym (none_more s.outs.opened))
-    ∙ ap (λ cs. ticked_work s now (map (after_heartbeat now) s.frameworks) (ticked_events s now) (move_all (map ticks s.sides) (moved_so (run_of s) s.sides s.outs.mails)) (s.outs.opened ++ []) cs) (sym (none_more s.outs.closed))
+    ∙ ap (λ os. ticked_work s now (map (after_heartbeat now) s.frameworks) (ticked_events s now) (move_all (map ticks s.sides) (moved_so (run_of s) s.sides s.outs.mails)) os s.outs.closed) (sym (append-nil s.outs.opened))
+    ∙ ap (λ cs. ticked_work s now (map (after_heartbeat now) s.frameworks) (ticked_events s now) (move_all (map ticks s.sides) (moved_so (run_of s) s.sides s.outs.mails)) (s.outs.opened ++ []) cs) (sym (append-nil s.outs.closed))

@@ -20,15 +20,6 @@ use Rattle.drf_pick.proofs.Reweighing.{tally_reweighed}
 use Rattle.drf_pick.proofs.AllocationRows.{to-append}
 use Rattle.master_rounds.specs.Allocations.{AreFoundOn, IsFoundAt, allocations_of, job_allocation, side_allocations, task_allocations}
 
-pub jobs_to : (id : Numbered) (js : List Job) → job_rows (filter (λ j. same j.framework id) js) ≡ rows_to id (map job_allocation js)
-jobs_to id [] = refl
-jobs_to id (j ∷ js) = by (same j.framework id) (jobs_to id js)
-  where
-    by : (b : Bool) → job_rows (filter (λ p. same p.framework id) js) ≡ rows_to id (map job_allocation js)
-        → job_rows (cond b (j ∷ filter (λ p. same p.framework id) js) (filter (λ p. same p.framework id) js)) ≡ cond b j.resources [] ++ rows_to id (map job_allocation js)
-    by true ih = ap (λ rows. j.resources ++ rows) ih
-    by false ih = ih
-
 -- of a task and those behind it
 pub tasks_behind : (b : Booked) (bs : List Booked) → map job_allocation (unended (b ∷ bs)) ≡ task_allocations b ++ map job_allocation (unended bs)
 tasks_behind b bs = by b.ended

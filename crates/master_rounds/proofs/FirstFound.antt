@@ -15,13 +15,13 @@ use Rattle.drf_shares.specs.Lists.{Among}
 use Rattle.drf_shares.proofs.Lists.{all_at}
 use Rattle.master_state.specs.Frameworks.{AreOfOneRole, HaveRole, are_ordered}
 use Rattle.master_state.specs.Starts.{NoneEligible}
-use Rattle.master_state.proofs.Ordered.{not_after}
 use Rattle.drf_pick.specs.Shares.{Tally}
 use Rattle.drf_pick.specs.Least.{comes_before, held_by}
 use Rattle.drf_pick.specs.ClientShares.{IsClientShare}
 use Rattle.drf_pick.specs.declared.client_share.ClientShare.{ClientShare}
 use Rattle.drf_pick.proofs.Nothing.{comes_no_sooner}
 use Rattle.master_rounds.specs.Picks.{better, better_eligible, framework_holder}
+use Rattle.names_core.proofs.IdOrder.{not_after}
 
 -- what is found is one of those that were gone through
 

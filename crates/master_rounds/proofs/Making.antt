@@ -23,11 +23,14 @@ use Rattle.master_agents.specs.Looks.{at_name}
 use Rattle.master_agents.specs.Taking.{fits, is_offered}
 use Rattle.cluster_model.specs.Fits.{AllFitTotals, FitsTotal, OffersBefore}
 use Rattle.cluster_model.proofs.Numbering.{Goes, sides_later}
-use Rattle.drf_pick.proofs.AllocationRows.{same_itself}
-use Rattle.master_state.proofs.Doings.{none_more}
-use Rattle.master_state.proofs.Moves.{before_differs, both_true, itself, moved_so}
+use Rattle.master_state.proofs.Moves.{moved_so}
 use Rattle.master_rounds.specs.News.{CanAllBeMade, CanBeMade, offers_all, offers_at}
 use Rattle.master_rounds.proofs.Bounds.{HaveRows, Visited, made_at, more, visited}
+use Rattle.cluster_model.proofs.Chains.{other_names}
+use Rattle.names_core.proofs.IdOrder.{same_itself}
+use Rattle.names_core.proofs.Lists.{bytes_eq-refl}
+use Rattle.std.proofs.lemmas.Bool.{and_parts}
+use Rattle.std.proofs.lemmas.List.{append-nil as none_more}
 
 abbrev pub offer_move : MadeOffer → Move
 offer_move g = AtSide g.agent (MakeOffer g.offer)
@@ -166,7 +169,7 @@ passed_over r s ss next after below e behind k = record {
   code = code_passes s k.gs ss (k.others s.name behind) ∙ ap (λ ts. s ∷ ts) k.code;
   entered_are = ap (λ os. made_on s.name os ++ entered ss k.news) (drop_own s.offers) ∙ k.entered_are;
   few = omega (arith, k.few);
-  others = λ name h. k.others name (both_true (bytes_before name s.name) (list_all (bytes_before name) (side_names ss)) h).1;
+  others = λ name h. k.others name (and_parts (bytes_before name s.name) (list_all (bytes_before name) (side_names ss)) h).1;
   later = later;
   can = can_pass s r.next k.gs ss below later (k.others s.name behind) k.can;
 }
@@ -187,10 +190,10 @@ made_first r s ss f next after are fits below is e behind k = record {
   code = ap (offers_all (map offer_of k.gs)) here_too ∙ code_passes (with_offer g.offer s) k.gs ss (k.others s.name behind) ∙ ap (λ ts. with_offer g.offer s ∷ ts) k.code;
   entered_are = ap (λ os. made_on s.name os ++ entered ss k.news) (drop_front s.offers g.offer) ∙ ap (λ hs. g ∷ hs) k.entered_are;
   few = omega (arith, k.few);
-  others = λ name h. let both = both_true (bytes_before name s.name) (list_all (bytes_before name) (side_names ss)) h in (before_differs name s.name both.0, k.others name both.1);
+  others = λ name h. let both = and_parts (bytes_before name s.name) (list_all (bytes_before name) (side_names ss)) h in (other_names name s.name both.0, k.others name both.1);
   later = (let own : before r.next r.next ≡ false = grind (arith, nat_tests) in own, later_still r.next k.gs later);
   can = (
-    record { fresh = none_offered r.next (s ∷ ss) below; room = rw (itself s.name) (free_covered s are fits) },
+    record { fresh = none_offered r.next (s ∷ ss) below; room = rw (bytes_eq-refl s.name) (free_covered s are fits) },
     subst (CanAllBeMade (map offer_of k.gs)) (sym here_too) (can_pass (with_offer g.offer s) (following r.next) k.gs ss (below_push (following r.next) s.offers g.offer further own_too) later (k.others s.name behind) k.can),
   );
 }
@@ -200,12 +203,12 @@ made_first r s ss f next after are fits below is e behind k = record {
 
     here : (run : Run) (sent : List ToAgent) → run.next_offer ≡ r.next → move (moved_so run (s ∷ ss) sent) (offer_move g) ≡ past_side (with_offer g.offer s) (moved_so (with_next (following r.next) run) ss sent)
     here run sent same_next =
-        ap (λ b. sending_more sent (cond b (at_this_side s.name (offered run s g.offer) ss) (past_side s (at_side s.name (MakeOffer g.offer) run ss)))) (itself s.name)
+        ap (λ b. sending_more sent (cond b (at_this_side s.name (offered run s g.offer) ss) (past_side s (at_side s.name (MakeOffer g.offer) run ss)))) (bytes_eq-refl s.name)
         ∙ ap (λ x. sending_more sent (at_this_side s.name x ss)) (model_makes run s f r.next are fits is same_next)
         ∙ ap (λ mails. past_side (with_offer g.offer s) (moved_so (with_next (following r.next) run) ss mails)) (none_more sent)
 
     here_too : offers_at (s ∷ ss) (offer_of g) ≡ with_offer g.offer s ∷ ss
-    here_too = ap (λ b. cond b (offering g.offer s ∷ ss) (s ∷ at_name s.name (offering g.offer) ss)) (itself s.name) ∙ ap (λ t. t ∷ ss) (code_makes s f r.next are fits below.0)
+    here_too = ap (λ b. cond b (offering g.offer s ∷ ss) (s ∷ at_name s.name (offering g.offer) ss)) (bytes_eq-refl s.name) ∙ ap (λ t. t ∷ ss) (code_makes s f r.next are fits below.0)
 
     later : Later (following r.next) k.gs
     later = subst (λ (x : Round). Later x.next k.gs) e k.later
@@ -228,7 +231,7 @@ all_made ws now totals cs (s ∷ ss) r rows fits below ordered =
     (all_made ws now totals cs ss (visits ws now totals cs r s) rows.1 fits.1 (sides_later r.next (visits ws now totals cs r s).next (next_goes r s (visits ws now totals cs r s) (visited ws now totals cs r s)) ss below.1) both.1)
   where
     both : (list_all (bytes_before s.name) (side_names ss) ≡ true) × (are_ordered (side_names ss) ≡ true)
-    both = both_true (list_all (bytes_before s.name) (side_names ss)) (are_ordered (side_names ss)) ordered
+    both = and_parts (list_all (bytes_before s.name) (side_names ss)) (are_ordered (side_names ss)) ordered
 
     by : Visited r s (visits ws now totals cs r s) → Made (visits ws now totals cs r s) ss (fold (visits ws now totals cs) (visits ws now totals cs r s) ss) → Made r (s ∷ ss) (fold (visits ws now totals cs) (visits ws now totals cs r s) ss)
     by (inl e) k = passed_over r s ss (visits ws now totals cs r s) (fold (visits ws now totals cs) (visits ws now totals cs r s) ss) below.0 e both.0 k

@@ -35,6 +35,7 @@ use Rattle.master_rounds.specs.Laws.{PicksAlike}
 use Rattle.master_rounds.specs.Picks.{better, better_eligible, framework_holder}
 use Rattle.master_rounds.proofs.Registered.{clients_once}
 use Rattle.master_rounds.proofs.Owning.{owned_rows, totals_alike}
+use Rattle.master_rounds.proofs.Shared.{jobs_to}
 
 -- the model's rows are those of what is held
 
@@ -45,15 +46,6 @@ offers_to id (o ∷ os) = by (same o.framework id) (offers_to id os)
     by : (b : Bool) → offer_rows (filter (λ p. same p.framework id) os) ≡ rows_to id (map offer_allocation os)
         → offer_rows (cond b (o ∷ filter (λ p. same p.framework id) os) (filter (λ p. same p.framework id) os)) ≡ cond b o.resources [] ++ rows_to id (map offer_allocation os)
     by true ih = ap (λ rows. o.resources ++ rows) ih
-    by false ih = ih
-
-jobs_to : (id : Numbered) (js : List Job) → job_rows (filter (λ j. same j.framework id) js) ≡ rows_to id (map job_allocation js)
-jobs_to id [] = refl
-jobs_to id (j ∷ js) = by (same j.framework id) (jobs_to id js)
-  where
-    by : (b : Bool) → job_rows (filter (λ p. same p.framework id) js) ≡ rows_to id (map job_allocation js)
-        → job_rows (cond b (j ∷ filter (λ p. same p.framework id) js) (filter (λ p. same p.framework id) js)) ≡ cond b j.resources [] ++ rows_to id (map job_allocation js)
-    by true ih = ap (λ rows. j.resources ++ rows) ih
     by false ih = ih
 
 side_to : (id : Numbered) (s : Side) → allocated_on id s ≡ rows_to id (side_allocations s)

@@ -11,9 +11,10 @@ use Rattle.messages.specs.declared.framework.Framework.{Framework}
 use Rattle.messages.specs.declared.events.SentOffer.{SentOffer}
 use Rattle.messages.specs.declared.events.StreamEvent.{StreamEvent}
 use Rattle.master_state.specs.Frameworks.{are_ordered, place_of}
-use Rattle.master_state.proofs.Ordered.{AllBehind, both_true}
+use Rattle.master_state.proofs.Ordered.{AllBehind}
 use Rattle.master_state.proofs.Placed.{all_at}
 use Rattle.master_rounds.specs.News.{news_of, event_on, places_of}
+use Rattle.std.proofs.lemmas.Bool.{and_parts}
 
 -- the place of a framework's own id
 
@@ -30,7 +31,7 @@ place_there : (id : Numbered) (fs : List Framework) (i : ℕ) (f : Framework) �
 place_there id [] i f o within is e = absurd (omega arith)
 place_there id (g ∷ gs) zero f o within is e = rw (not_before g.id id (subst (λ (h : Framework). same h.id id ≡ true) is e)) refl
 place_there id (g ∷ gs) (suc i) f o within is e =
-    let both : AllBehind g.id gs × (are_ordered gs ≡ true) = both_true (list_all (λ h. before g.id h.id) gs) (are_ordered gs) o in
+    let both : AllBehind g.id gs × (are_ordered gs ≡ true) = and_parts (list_all (λ h. before g.id h.id) gs) (are_ordered gs) o in
     let first : before g.id f.id ≡ true = subst (λ (h : Framework). before g.id h.id ≡ true) (sym is) (all_at g.id gs i f both.0 (omega arith)) in
     rw (before_same g.id f.id id first e) (ap suc (place_there id gs i f both.1 (omega arith) is e))
 

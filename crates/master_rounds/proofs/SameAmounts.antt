@@ -5,7 +5,8 @@ use Rattle.quantity.specs.Rows.{amount}
 use Rattle.drf_pick.specs.declared.counted.Allocation.{Allocation}
 use Rattle.drf_pick.specs.Allocations.{all_rows, rows_to}
 use Rattle.drf_pick.specs.Shown.{SameAllocations}
-use Rattle.drf_pick.proofs.AllocationRows.{all-one, part, same_back, same_is, same_itself, to-one}
+use Rattle.drf_pick.proofs.AllocationRows.{all-one, part, to-one}
+use Rattle.names_core.proofs.IdOrder.{same-comm, same-is, same_itself}
 
 -- those of other frameworks
 abbrev others : Numbered → List Allocation → List Allocation
@@ -31,13 +32,13 @@ to_others name id other [] = by (same other id)
 to_others name id other (a ∷ as_) = by (same a.framework id) refl (same other id) refl (to_others name id other as_)
   where
     not_this : same a.framework id ≡ true → same other id ≡ false → same a.framework other ≡ false
-    not_this e h = ap (λ (x : Numbered). same x other) (same_is a.framework id e) ∙ turned id other h
+    not_this e h = ap (λ (x : Numbered). same x other) (same-is a.framework id e) ∙ turned id other h
       where
         turned : (x y : Numbered) → same y x ≡ false → same x y ≡ false
-        turned x y h = same_back x y ∙ h
+        turned x y h = same-comm x y ∙ h
 
     not_that : same a.framework id ≡ false → same other id ≡ true → same a.framework other ≡ false
-    not_that e h = ap (λ (x : Numbered). same a.framework x) (same_is other id h) ∙ e
+    not_that e h = ap (λ (x : Numbered). same a.framework x) (same-is other id h) ∙ e
 
     by : (b : Bool) → same a.framework id ≡ b → (c : Bool) → same other id ≡ c → amount name (rows_to other (others id as_)) ≡ cond c 0 (amount name (rows_to other as_))
         → amount name (rows_to other (cond (not b) (a ∷ others id as_) (others id as_))) ≡ cond c 0 (amount name (rows_to other (a ∷ as_)))

@@ -15,7 +15,6 @@ use Rattle.cluster_model.specs.Fits.{SidesFit}
 use Rattle.master_state.specs.declared.state.State.{State}
 use Rattle.messages.specs.declared.events.StreamEvent.{StreamEvent}
 use Rattle.master_state.specs.Works.{Work, done, master_of, registers_of, run_of, work_of}
-use Rattle.master_state.proofs.Doings.{none_more}
 use Rattle.master_state.proofs.Moves.{moved_so}
 use Rattle.master_rounds.specs.News.{CanAllBeMade, event_on, news_of, offers_all}
 use Rattle.master_rounds.specs.Visits.{KeepsRoom, begins, round_with}
@@ -26,6 +25,7 @@ use Rattle.master_rounds.proofs.Bounds.{HaveRows}
 use Rattle.master_rounds.specs.Rounds.{AreOfRound}
 use Rattle.master_rounds.proofs.RoundList.{Listed, round_listed}
 use Rattle.master_rounds.proofs.Making.{Made, all_made, offer_move, with_next}
+use Rattle.std.proofs.lemmas.List.{append-nil}
 
 -- events
 
@@ -129,8 +129,8 @@ allocated_so ws s t h shown =
     ∙ ap (λ x. with_moved s x (s.outs.events ++ flat_map (news_of (map offer_of k.gs)) s.frameworks)) (sym (k.moves (run_of s) s.outs.mails refl))
     ∙ ap (λ gs. with_moved s (move_all (map offer_move gs) (moved_so (run_of s) s.sides s.outs.mails)) (s.outs.events ++ flat_map (news_of (map offer_of k.gs)) s.frameworks)) (sym k.made)
     ∙ ap (λ es. with_moved s (move_all (making ws (master_of s)) (moved_so (run_of s) s.sides s.outs.mails)) (s.outs.events ++ es)) (told_all k.gs s.frameworks ∙ ap (λ gs. flat_map (offers_of gs) s.frameworks) (sym all_entered))
-    ∙ ap (λ opens. with_opens ws s opens s.outs.closed) (sym (none_more s.outs.opened))
-    ∙ ap (with_opens ws s (s.outs.opened ++ [])) (sym (none_more s.outs.closed))
+    ∙ ap (λ opens. with_opens ws s opens s.outs.closed) (sym (append-nil s.outs.opened))
+    ∙ ap (with_opens ws s (s.outs.opened ++ [])) (sym (append-nil s.outs.closed))
   where
     k : Made (start_of s) s.sides (round_after ws s)
     k = made_of ws s h

@@ -9,12 +9,7 @@ use Rattle.messages.specs.declared.framework.Framework.{Framework}
 use Rattle.cluster_model.specs.Masters.{MasterEffect, Master, framework_of, is_torn, refused}
 use Rattle.cluster_model.specs.Calls.{by_framework, by_known, is_stream, on_its_stream}
 use Rattle.master_state.specs.Works.{admission, admission_of, admission_on}
-
-same_is : (a b : Numbered) → same a b ≡ true → a ≡ b
-same_is a b h =
-    let n : a.n ≡ b.n = grind (arith, nat_tests) in
-    let run : a.run ≡ b.run = grind (arith, nat_tests) in
-    let e : record { run = a.run; n = a.n } ≡ b = rw (n, run) refl in e
+use Rattle.names_core.proofs.IdOrder.{same-is}
 
 found_is : (id : Numbered) (fs : List Framework) (f : Framework) → find (λ g. same g.id id) fs ≡ Some f → f.id ≡ id
 found_is id [] f e = absurd cc
@@ -23,7 +18,7 @@ found_is id (g ∷ gs) f e = by (same g.id id) refl (found_is id gs f) e
     by : (b : Bool) → same g.id id ≡ b → (find (λ h. same h.id id) gs ≡ Some f → f.id ≡ id) → cond b (Some g) (find (λ h. same h.id id) gs) ≡ Some f → f.id ≡ id
     by true s ih q =
         let one : g ≡ f = cc in
-        subst (λ (x : Framework). x.id ≡ id) one (same_is g.id id s)
+        subst (λ (x : Framework). x.id ≡ id) one (same-is g.id id s)
     by false s ih q = ih q
 
 -- who calls, and that the call is done as the model has it

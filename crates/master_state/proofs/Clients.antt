@@ -12,10 +12,11 @@ use Rattle.drf_pick.specs.Shown.{AreCounted}
 use Rattle.master_state.specs.Frameworks.{KeepsId, are_ordered, ids_of, place_of, roles_of}
 use Rattle.master_state.specs.LastRound.{IsOfFirst, client_of, clients_of}
 use Rattle.master_state.specs.declared.registry.RoundCache.{RoundCache}
-use Rattle.master_state.proofs.Ordered.{both_true, ids_set, put_at, put_later}
-use Rattle.master_state.proofs.Leading.{same_itself}
+use Rattle.master_state.proofs.Ordered.{ids_set, put_at, put_later}
 use Rattle.master_state.proofs.OneRole.{KeepsRole, roles_set}
 use Rattle.master_state.proofs.Searches.{first_alike}
+use Rattle.names_core.proofs.IdOrder.{same_itself}
+use Rattle.std.proofs.lemmas.Bool.{and_parts}
 
 -- the same clients
 
@@ -60,7 +61,7 @@ first_in_front fs gs place last_round few e is = first_of fs gs last_round last_
 
 pub put_front : (x : Framework) (fs : List Framework) → are_ordered fs ≡ true → take (place_of x.id fs) (put_framework x fs) ≡ take (place_of x.id fs) fs
 put_front x [] o = refl
-put_front x (f ∷ fs) o = by (before f.id x.id) refl (put_front x fs (both_true (list_all (λ g. before f.id g.id) fs) (are_ordered fs) o).1)
+put_front x (f ∷ fs) o = by (before f.id x.id) refl (put_front x fs (and_parts (list_all (λ g. before f.id g.id) fs) (are_ordered fs) o).1)
   where
     by : (b : Bool) → before f.id x.id ≡ b → take (place_of x.id fs) (put_framework x fs) ≡ take (place_of x.id fs) fs
         → take (cond b (suc (place_of x.id fs)) 0) (put_framework x (f ∷ fs)) ≡ take (cond b (suc (place_of x.id fs)) 0) (f ∷ fs)

@@ -7,8 +7,9 @@ use Rattle.master_agents.specs.Looks.{at_name, value_of}
 use Rattle.master_state.specs.States.{State}
 use Rattle.master_state.specs.Greetings.{greeted, greeted_as, hello}
 use Rattle.master_state.specs.Works.{Work, run_of, work_of}
-use Rattle.master_state.proofs.Doings.{none_more, with_moves}
+use Rattle.master_state.proofs.Doings.{with_moves}
 use Rattle.master_state.proofs.Moves.{moved_so}
+use Rattle.std.proofs.lemmas.List.{append-nil}
 
 abbrev hellos : List ℕ → ℕ → Option ℕ → List ToAgent
 hellos name run None = []
@@ -28,7 +29,7 @@ abbrev with_moved : Moved → Work → Work
 with_moved x w = record { moved = x; registers = w.registers; events = w.events; opens = w.opens; closes = w.closes }
 
 greeted_moves : (name : List ℕ) (s : State) (dead : Option ℕ) → work_of (greeted_as name dead s) ≡ with_moved (moved_so (run_of s) s.sides (s.outs.mails ++ hellos name s.run dead)) (work_of s)
-greeted_moves name s None = ap (λ mails. with_moved (moved_so (run_of s) s.sides mails) (work_of s)) (sym (none_more s.outs.mails))
+greeted_moves name s None = ap (λ mails. with_moved (moved_so (run_of s) s.sides mails) (work_of s)) (sym (append-nil s.outs.mails))
 greeted_moves name s (Some dead) = refl
 
 pub greets : (name : List ℕ) (s : State) → work_of (greeted name s) ≡ with_moves (AtSide name SendHello ∷ []) (work_of s)
@@ -50,5 +51,5 @@ silent_at name change step run same (s ∷ ss) = by (bytes_eq s.name name) (sile
 pub changes_silently : (name : List ℕ) (change : Side → Side) (step : SideStep) (s : State) → ((t : Side) → side_step (run_of s) t step ≡ sends_nothing (run_of s) (change t))
     → work_of (record s { sides = at_name name change s.sides }) ≡ with_moves (AtSide name step ∷ []) (work_of s)
 changes_silently name change step s same =
-    ap (λ mails. with_moved (moved_so (run_of s) (at_name name change s.sides) mails) (work_of s)) (sym (none_more s.outs.mails))
+    ap (λ mails. with_moved (moved_so (run_of s) (at_name name change s.sides) mails) (work_of s)) (sym (append-nil s.outs.mails))
     ∙ ap (λ x. with_moved (sending_more s.outs.mails x) (work_of s)) (sym (silent_at name change step (run_of s) same s.sides))

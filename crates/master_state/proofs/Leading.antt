@@ -9,30 +9,23 @@ use Rattle.cluster_model.specs.Masters.{put_framework}
 use Rattle.cluster_model.specs.Mails.{after_heartbeat, beaten_on, is_due}
 use Rattle.master_state.specs.Frameworks.{KeepsId, are_ordered, changed, ids_of, with_id, without_stream}
 use Rattle.master_state.specs.OpenStreams.{IsTable, open_stream, stream_cmp, streams_of, without}
-use Rattle.master_state.proofs.Ordered.{AllBehind, both_true, same_is, is_other, else_after, put_first, put_later, put_before, put_ordered, ordered_alike, map_ordered, changed_keeps}
+use Rattle.master_state.proofs.Ordered.{AllBehind, put_first, put_later, put_before, put_ordered, ordered_alike, map_ordered, changed_keeps}
+use Rattle.names_core.proofs.IdOrder.{else_after, is_other, later_differs, same-comm, same-is, same_itself}
+use Rattle.std.proofs.lemmas.Bool.{and_parts}
 
 -- ids
-
-pub same_itself : (a : Numbered) → same a a ≡ true
-same_itself a = grind (arith, nat_tests)
 
 pub tells_same : (a b : Numbered) → is_eq (stream_cmp a b) ≡ same b a
 tells_same a b = grind (arith, nat_tests)
 
 alike : (a b c : Numbered) → same a b ≡ true → same a c ≡ same b c
-alike a b c h = ap (λ (x : Numbered). same x c) (same_is a b h)
-
-pub turned : (a b : Numbered) → same a b ≡ same b a
-turned a b = grind (arith, nat_tests)
-
-sooner_differs : (a b id : Numbered) → before a b ≡ true → same a id ≡ true → same b id ≡ false
-sooner_differs a b id h k = grind (arith, nat_tests)
+alike a b c h = ap (λ (x : Numbered). same x c) (same-is a b h)
 
 -- streams
 
 is_its : (s : Numbered) (o : Option Numbered) → is_stream s o ≡ true → o ≡ Some s
 is_its s None h = absurd (true≢false (sym h))
-is_its s (Some t) h = ap (λ (x : Numbered). Some x) (same_is t s h)
+is_its s (Some t) h = ap (λ (x : Numbered). Some x) (same-is t s h)
 
 its_is : (s : Numbered) (o : Option Numbered) → o ≡ Some s → is_stream s o ≡ true
 its_is s o e = rw e (same_itself s)
@@ -107,7 +100,7 @@ all_found test a [] f h e = absurd cc
 all_found test a (g ∷ gs) f h e = by (test g) refl e (all_found test a gs f both.1)
   where
     both : (before a g.id ≡ true) × AllBehind a gs
-    both = both_true (before a g.id) (list_all (λ x. before a x.id) gs) h
+    both = and_parts (before a g.id) (list_all (λ x. before a x.id) gs) h
 
     by : (b : Bool) → test g ≡ b → cond b (Some g) (find test gs) ≡ Some f → (find test gs ≡ Some f → before a f.id ≡ true) → before a f.id ≡ true
     by true t n ih =
@@ -123,7 +116,7 @@ found_as test [] f o e = absurd cc
 found_as test (g ∷ gs) f o e = by (test g) refl e (found_as test gs f both.1)
   where
     both : AllBehind g.id gs × (are_ordered gs ≡ true)
-    both = both_true (list_all (λ h. before g.id h.id) gs) (are_ordered gs) o
+    both = and_parts (list_all (λ h. before g.id h.id) gs) (are_ordered gs) o
 
     by : (b : Bool) → test g ≡ b → cond b (Some g) (find test gs) ≡ Some f → (find test gs ≡ Some f → FoundAs test gs f) → FoundAs test (g ∷ gs) f
     by true t n ih =
@@ -132,7 +125,7 @@ found_as test (g ∷ gs) f o e = by (test g) refl e (found_as test gs f both.1)
         subst (λ (x : Framework). FoundAs test (g ∷ gs) x) is (t, here)
     by false t n ih =
         let rest = ih n in
-        let other : same g.id f.id ≡ false = turned g.id f.id ∙ is_other g.id f.id (all_found test g.id gs f both.0 n) in
+        let other : same g.id f.id ≡ false = same-comm g.id f.id ∙ is_other g.id f.id (all_found test g.id gs f both.0 n) in
         (rest.0, rw other rest.1)
 
 -- no framework has it open
@@ -177,7 +170,7 @@ closed_there id shut (f ∷ fs) = by (same f.id shut) refl (same f.id id) refl (
         rw (a, b, both) refl
     by true a false b ih = rw (a, b) ih
     by false a true b ih =
-        let both : same shut id ≡ false = turned shut id ∙ sym (alike f.id id shut b) ∙ a in
+        let both : same shut id ≡ false = same-comm shut id ∙ sym (alike f.id id shut b) ∙ a in
         rw (a, b, both) refl
     by false a false b ih = rw (a, b) ih
 
@@ -194,7 +187,7 @@ table_closed leads less fs id o t was shut = record {
         by true p c q e = absurd cc
         by false p true q e =
             let at : open_stream other fs ≡ Some stream = (t.led stream other).0 e in
-            let it : o ≡ Some stream = was ∙ ap (λ (x : Numbered). open_stream x fs) (same_is id other q) ∙ at in
+            let it : o ≡ Some stream = was ∙ ap (λ (x : Numbered). open_stream x fs) (same-is id other q) ∙ at in
             absurd (true≢false (sym (its_is stream o it) ∙ p))
         by false p false q e = (t.led stream other).0 e
 
@@ -217,11 +210,11 @@ put_there id x [] o = refl
 put_there id x (f ∷ fs) o = by (before f.id x.id) refl (same f.id x.id) refl (put_there id x fs both.1)
   where
     both : AllBehind f.id fs × (are_ordered fs ≡ true)
-    both = both_true (list_all (λ g. before f.id g.id) fs) (are_ordered fs) o
+    both = and_parts (list_all (λ g. before f.id g.id) fs) (are_ordered fs) o
 
     later : before f.id x.id ≡ true → (b : Bool) → same f.id id ≡ b → with_id id (put_framework x fs) ≡ cond (same x.id id) (Some x) (with_id id fs)
         → cond b (Some f) (with_id id (put_framework x fs)) ≡ cond (same x.id id) (Some x) (cond b (Some f) (with_id id fs))
-    later lt true e ih = rw (sooner_differs f.id x.id id lt e) refl
+    later lt true e ih = rw (later_differs f.id x.id id lt e) refl
     later lt false e ih = ih
 
     first : (b : Bool) → cond b (Some x) (with_id id fs) ≡ cond b (Some x) (cond b (Some f) (with_id id fs))
@@ -236,7 +229,7 @@ put_there id x (f ∷ fs) o = by (before f.id x.id) refl (same f.id x.id) refl (
     by : (b : Bool) → before f.id x.id ≡ b → (c : Bool) → same f.id x.id ≡ c → with_id id (put_framework x fs) ≡ cond (same x.id id) (Some x) (with_id id fs)
         → with_id id (put_framework x (f ∷ fs)) ≡ cond (same x.id id) (Some x) (with_id id (f ∷ fs))
     by true e c t ih = rw (put_later x f fs e) (later e (same f.id id) refl ih)
-    by false e true t ih = in_place (same_is f.id x.id t)
+    by false e true t ih = in_place (same-is f.id x.id t)
     by false e false t ih = rw (put_before x f fs (else_after f.id x.id e t) both.0) refl
 
 abbrev pub LedTo : (Numbered → Option Numbered) → Numbered → Numbered → Numbered → Option Numbered
@@ -261,13 +254,13 @@ table_opened leads more less fs x stream o t new its was led shut = record {
         by : (a : Bool) → is_stream s o ≡ a → (b : Bool) → same s stream ≡ b → (c : Bool) → same x.id id ≡ c
             → cond a None (cond b (Some x.id) (leads s)) ≡ Some id → option_and_then (λ (f : Framework). f.stream) (cond c (Some x) (with_id id fs)) ≡ Some s
         by true p b q c r e = absurd cc
-        by false p true q true r e = its ∙ ap (λ (n : Numbered). Some n) (sym (same_is s stream q))
+        by false p true q true r e = its ∙ ap (λ (n : Numbered). Some n) (sym (same-is s stream q))
         by false p true q false r e =
             let is : x.id ≡ id = one x.id id e in
             absurd (true≢false (sym (same_itself x.id) ∙ (ap (same x.id) is ∙ r)))
         by false p false q true r e =
             let at : open_stream id fs ≡ Some s = (t.led s id).0 e in
-            let it : o ≡ Some s = was ∙ ap (λ (n : Numbered). open_stream n fs) (same_is x.id id r) ∙ at in
+            let it : o ≡ Some s = was ∙ ap (λ (n : Numbered). open_stream n fs) (same-is x.id id r) ∙ at in
             absurd (true≢false (sym (its_is s o it) ∙ p))
         by false p false q false r e = (t.led s id).0 e
 
@@ -292,9 +285,9 @@ table_opened leads more less fs x stream o t new its was led shut = record {
                 let its_own : leads s ≡ Some id = (t.led s id).1 e in
                 let is : x.id ≡ id = one x.id id (sym mine ∙ its_own) in
                 true≢false (sym (same_itself x.id) ∙ (ap (same x.id) is ∙ r))
-        by false p true q true r e = ap (λ (n : Numbered). Some n) (same_is x.id id r)
+        by false p true q true r e = ap (λ (n : Numbered). Some n) (same-is x.id id r)
         by false p true q false r e =
-            let led_here : leads stream ≡ Some id = ap leads (sym (same_is s stream q)) ∙ (t.led s id).1 e in
+            let led_here : leads stream ≡ Some id = ap leads (sym (same-is s stream q)) ∙ (t.led s id).1 e in
             absurd (no_stream led_here)
         by false p false q true r e =
             let is : s ≡ stream = one s stream (sym e ∙ its) in
@@ -310,10 +303,10 @@ table_as leads less fs e t = record {
 }
 
 pub shut_again : (leads more less : Numbered → Option Numbered) (stream id : Numbered) → leads stream ≡ None → ((s : Numbered) → more s ≡ LedTo leads stream id s) → ((s : Numbered) → less s ≡ without (Some stream) more s) → (s : Numbered) → less s ≡ leads s
-shut_again leads more less stream id new led shut s = rw (shut s, led s, turned stream s) (by (same s stream) refl)
+shut_again leads more less stream id new led shut s = rw (shut s, led s, same-comm stream s) (by (same s stream) refl)
   where
     by : (b : Bool) → same s stream ≡ b → cond b None (cond b (Some id) (leads s)) ≡ leads s
-    by true e = sym (ap leads (same_is s stream e) ∙ new)
+    by true e = sym (ap leads (same-is s stream e) ∙ new)
     by false e = refl
 
 pub none_left : (o : Option Numbered) → is_some o ≡ false → o ≡ None

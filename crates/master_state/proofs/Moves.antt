@@ -15,11 +15,10 @@ use Rattle.master_agents.specs.Configs.{are_ordered}
 use Rattle.master_agents.specs.Joined.{side_names}
 use Rattle.master_agents.specs.Looks.{at_name, next_command, value_of, withdrawing}
 use Rattle.master_state.specs.States.{mail_of}
-use Rattle.master_state.proofs.Doings.{none_more}
-
-pub both_true : (x y : Bool) → (x && y) ≡ true → (x ≡ true) × (y ≡ true)
-both_true true y e = (refl, e)
-both_true false y e = absurd cc
+use Rattle.cluster_model.proofs.Chains.{other_names}
+use Rattle.names_core.proofs.Lists.{bytes_eq-refl}
+use Rattle.std.proofs.lemmas.Bool.{and_parts}
+use Rattle.std.proofs.lemmas.List.{append-nil}
 
 -- names in order are different
 
@@ -27,12 +26,6 @@ differs_step : (x y : ℕ) (b e : Bool) → (b ≡ true → e ≡ false) → (na
 differs_step x y true true ih p = absurd (true≢false (ih refl))
 differs_step x y true false ih p = grind (arith, nat_tests)
 differs_step x y false e ih p = grind (arith, nat_tests)
-
-pub before_differs : (xs ys : List ℕ) → bytes_before xs ys ≡ true → bytes_eq xs ys ≡ false
-before_differs [] [] p = absurd (true≢false (sym p))
-before_differs [] (y ∷ ys) p = refl
-before_differs (x ∷ xs) [] p = refl
-before_differs (x ∷ xs) (y ∷ ys) p = differs_step x y (bytes_before xs ys) (bytes_eq xs ys) (before_differs xs ys) p
 
 -- offers that pass a test are withdrawn at every side
 
@@ -48,27 +41,20 @@ pass_all : (test : Offer → Bool) (s : Side) (ts : List Side) (x : Moved) → l
     → move_all (map (withdraws_on test) ts) (past_side s x) ≡ past_side s (move_all (map (withdraws_on test) ts) x)
 pass_all test s [] x behind = refl
 pass_all test s (t ∷ ts) x behind =
-    let both = both_true (bytes_before s.name t.name) (list_all (bytes_before s.name) (side_names ts)) behind in
+    let both = and_parts (bytes_before s.name t.name) (list_all (bytes_before s.name) (side_names ts)) behind in
     ap (move_all (map (withdraws_on test) ts)) (other both.0) ∙ pass_all test s ts (move x (withdraws_on test t)) both.1
   where
     other : bytes_before s.name t.name ≡ true → move (past_side s x) (withdraws_on test t) ≡ past_side s (move x (withdraws_on test t))
-    other lt = rw (before_differs s.name t.name lt) refl
-
-pub itself : (xs : List ℕ) → bytes_eq xs xs ≡ true
-itself [] = refl
-itself (x ∷ xs) = step x (bytes_eq xs xs) (itself xs)
-  where
-    step : (n : ℕ) (b : Bool) → b ≡ true → (n == n && b) ≡ true
-    step n b h = grind (arith, nat_tests)
+    other lt = rw (other_names s.name t.name lt) refl
 
 here : (test : Offer → Bool) (s : Side) (ss : List Side) (run : Run) (sent : List ToAgent) → move (moved_so run (s ∷ ss) sent) (withdraws_on test s) ≡ past_side (withdrawing test s) (moved_so run ss sent)
-here test s ss run sent = rw (itself s.name) (ap (λ mails. past_side (withdrawing test s) (moved_so run ss mails)) (none_more sent))
+here test s ss run sent = rw (bytes_eq-refl s.name) (ap (λ mails. past_side (withdrawing test s) (moved_so run ss mails)) (append-nil sent))
 
 pub all_withdrawn : (test : Offer → Bool) (ss : List Side) (run : Run) (sent : List ToAgent) → are_ordered (side_names ss) ≡ true
     → move_all (map (withdraws_on test) ss) (moved_so run ss sent) ≡ moved_so run (map (withdrawing test) ss) sent
 all_withdrawn test [] run sent ordered = refl
 all_withdrawn test (s ∷ ss) run sent ordered =
-    let both = both_true (list_all (bytes_before s.name) (side_names ss)) (are_ordered (side_names ss)) ordered in
+    let both = and_parts (list_all (bytes_before s.name) (side_names ss)) (are_ordered (side_names ss)) ordered in
     ap (move_all (map (withdraws_on test) ss)) (here test s ss run sent)
     ∙ pass_all test (withdrawing test s) ss (moved_so run ss sent) both.0
     ∙ ap (past_side (withdrawing test s)) (all_withdrawn test ss run sent both.1)

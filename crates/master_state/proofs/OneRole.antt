@@ -7,6 +7,7 @@ use Rattle.messages.specs.declared.framework.Framework.{Framework}
 use Rattle.cluster_model.specs.Masters.{put_framework}
 use Rattle.cluster_model.specs.Mails.{after_heartbeat, beaten_on, is_due}
 use Rattle.master_state.specs.Frameworks.{AreOfOneRole, HaveRole, changed, roles_of}
+use Rattle.names_core.proofs.Lists.{bytes_eq-is}
 
 abbrev pub KeepsRole : (Framework → Framework) → Type 0
 KeepsRole change = (f : Framework) → (change f).role ≡ f.role
@@ -67,11 +68,8 @@ one_put x fs h = (
 
 -- those of one role have that of the first
 
-name_is : (xs ys : List ℕ) → bytes_eq xs ys ≡ true → xs ≡ ys
-name_is xs ys e = (bytes_decides xs ys).0 e
-
 pub have_first : (fs : List Framework) (f : Framework) (role : List ℕ) → 0 < length fs → f ≡ get_or fs 0 f → bytes_eq f.role role ≡ true → AreOfOneRole fs → HaveRole role fs
 have_first [] f role lt is e h = absurd (omega arith)
 have_first (g ∷ gs) f role lt is e h =
-    let first : g.role ≡ role = ap (λ (x : Framework). x.role) (sym is) ∙ name_is f.role role e in
+    let first : g.role ≡ role = ap (λ (x : Framework). x.role) (sym is) ∙ bytes_eq-is f.role role e in
     subst (λ (r : List ℕ). HaveRole r (g ∷ gs)) (sym h.1.0 ∙ first) h.1

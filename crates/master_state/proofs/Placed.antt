@@ -11,31 +11,27 @@ use Rattle.std.proofs.lemmas.Bool.Decides.{nat_tests}
 use Rattle.names_core.specs.Ids.{Numbered, same, before}
 use Rattle.messages.specs.declared.framework.Framework.{Framework}
 use Rattle.master_state.specs.Frameworks.{are_ordered, changed, place_of, with_id}
-use Rattle.master_state.proofs.Ordered.{AllBehind, both_true, none_changed, same_is, is_other, before_trans, else_after, behind_trans}
+use Rattle.master_state.proofs.Ordered.{AllBehind, none_changed, behind_trans}
+use Rattle.names_core.proofs.IdOrder.{before_both, earlier_differs, else_after, is_other, same-is, sooner_differs}
+use Rattle.std.proofs.lemmas.Bool.{and_parts}
 
 abbrev pub is_of : Numbered → Framework → Bool
 is_of id f = same f.id id
 
 -- ids
 
-earlier_differs : (a b id : Numbered) → before a b ≡ true → same b id ≡ true → same a id ≡ false
-earlier_differs a b id h k = grind (arith, nat_tests)
-
-sooner_differs : (a id : Numbered) → before a id ≡ true → same a id ≡ false
-sooner_differs a id h = grind (arith, nat_tests)
-
 -- one of those behind an id
 
 pub all_at : (a : Numbered) (fs : List Framework) (i : ℕ) (d : Framework) → AllBehind a fs → i < length fs → before a (get_or fs i d).id ≡ true
 all_at a [] i d h within = absurd (omega arith)
-all_at a (f ∷ fs) zero d h within = (both_true (before a f.id) (list_all (λ g. before a g.id) fs) h).0
-all_at a (f ∷ fs) (suc i) d h within = all_at a fs i d (both_true (before a f.id) (list_all (λ g. before a g.id) fs) h).1 (omega arith)
+all_at a (f ∷ fs) zero d h within = (and_parts (before a f.id) (list_all (λ g. before a g.id) fs) h).0
+all_at a (f ∷ fs) (suc i) d h within = all_at a fs i d (and_parts (before a f.id) (list_all (λ g. before a g.id) fs) h).1 (omega arith)
 
 first_of : (f : Framework) (fs : List Framework) → are_ordered (f ∷ fs) ≡ true → AllBehind f.id fs
-first_of f fs o = (both_true (list_all (λ g. before f.id g.id) fs) (are_ordered fs) o).0
+first_of f fs o = (and_parts (list_all (λ g. before f.id g.id) fs) (are_ordered fs) o).0
 
 rest_of : (f : Framework) (fs : List Framework) → are_ordered (f ∷ fs) ≡ true → are_ordered fs ≡ true
-rest_of f fs o = (both_true (list_all (λ g. before f.id g.id) fs) (are_ordered fs) o).1
+rest_of f fs o = (and_parts (list_all (λ g. before f.id g.id) fs) (are_ordered fs) o).1
 
 rising_at : (fs : List Framework) (i j : ℕ) (d : Framework) → are_ordered fs ≡ true → i < j → j < length fs → before (get_or fs i d).id (get_or fs j d).id ≡ true
 rising_at [] i j d o below within = absurd (omega arith)
@@ -51,7 +47,7 @@ parted id fs o = λ i j d most within passes. by i j d most within passes (nat_l
     by : (i j : ℕ) (d : Framework) → i ≤ j → j < length fs → before (get_or fs j d).id id ≡ true → (b : Bool) → nat_lt i j ≡ b → before (get_or fs i d).id id ≡ true
     by i j d most within passes true e =
         let below : i < j = grind (arith, nat_tests) in
-        before_trans (get_or fs i d).id (get_or fs j d).id id (rising_at fs i j d o below within) passes
+        before_both (get_or fs i d).id (get_or fs j d).id id (rising_at fs i j d o below within) passes
     by i j d most within passes false e =
         let least : j ≤ i = grind (arith, nat_tests) in
         let level : i ≡ j = omega arith in
@@ -84,7 +80,7 @@ placed id fs i f o within is passes =
 all_differ : (id : Numbered) (fs : List Framework) → AllBehind id fs → position_or_len (is_of id) fs ≡ length fs
 all_differ id [] h = refl
 all_differ id (f ∷ fs) h =
-    let both = both_true (before id f.id) (list_all (λ g. before id g.id) fs) h in
+    let both = and_parts (before id f.id) (list_all (λ g. before id g.id) fs) h in
     rw (is_other id f.id both.0, all_differ id fs both.1) (omega arith)
 
 none_stands : (id : Numbered) (fs : List Framework) → are_ordered fs ≡ true → ((d : Framework) → place_of id fs < length fs → is_of id (get_or fs (place_of id fs) d) ≡ false) → position_or_len (is_of id) fs ≡ length fs
@@ -137,7 +133,7 @@ changed_at : (change : Framework → Framework) (id : Numbered) (fs : List Frame
 changed_at change id [] i f o within is passes = absurd (omega arith)
 changed_at change id (g ∷ gs) zero f o within is passes =
     let here : same g.id id ≡ true = ap (is_of id) (sym is) ∙ passes in
-    let behind : AllBehind id gs = subst (λ a. AllBehind a gs) (same_is g.id id here) (first_of g gs o) in
+    let behind : AllBehind id gs = subst (λ a. AllBehind a gs) (same-is g.id id here) (first_of g gs o) in
     rw (here, none_changed change id gs behind) (ap (λ (h : Framework). change h ∷ gs) is)
 changed_at change id (g ∷ gs) (suc i) f o within is passes =
     let before_f : before g.id f.id ≡ true = subst (λ (h : Framework). before g.id h.id ≡ true) (sym is) (all_at g.id gs i f (first_of g gs o) (omega arith)) in

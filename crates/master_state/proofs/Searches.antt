@@ -15,6 +15,7 @@ use Rattle.cluster_model.specs.Mails.{after_heartbeat, beaten_on, is_due}
 use Rattle.cluster_model.specs.Rounds.{is_subscribed, may_be_offered, refuses}
 use Rattle.master_state.specs.Frameworks.{changed, place_of, suppressed, with_filter, without_stream}
 use Rattle.master_state.specs.Starts.{AreStarts, IsStart, NoneEligible, Start, all_cut, all_cut_on, cut_on, cut_to}
+use Rattle.names_core.proofs.IdOrder.{sooner_differs}
 
 -- one start more, or in place of another
 
@@ -180,9 +181,6 @@ refused_makes_none moment seconds agent other refused differ now free f none =
     ap (λ (b : Bool). (is_subscribed f.stream && not f.suppressed) && not b) (any_added moment seconds now agent other free refused f.filters differ) ∙ none
 
 -- those in front of a place
-
-sooner_differs : (a id : Numbered) → before a id ≡ true → same a id ≡ false
-sooner_differs a id h = grind (arith, nat_tests)
 
 pub changed_front : (change : Framework → Framework) (id : Numbered) (fs : List Framework) → take (place_of id fs) (map (changed change id) fs) ≡ take (place_of id fs) fs
 changed_front change id [] = refl

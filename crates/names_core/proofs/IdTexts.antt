@@ -14,6 +14,7 @@ use Rattle.std.specs.Char.{is_ascii_digit}
 use Rattle.std.specs.Str.{all_ascii_digits}
 use Rattle.std.specs.Str.Parse.{digits_value, ParsesUnsigned}
 use Rattle.names_core.specs.Ids.{Numbered, InRange, id_text, id_of, number_of, is_dash}
+use Rattle.std.proofs.lemmas.Bool.{and_parts}
 
 pub own : IsNumeralModel (λ ds. all_ascii_digits ds ≡ true) (digits_value 10)
 own = numerals_by_value _ tells_all_ascii_digits
@@ -31,10 +32,6 @@ chosen a b c v r P e h to from = rw e (chosen_by b c v r P h to from)
 pub nonempty : (ds : List ℕ) → 49 ≤ get_or ds 0 0 → 0 < length ds
 nonempty [] h = absurd (omega arith)
 nonempty (d ∷ ds) h = omega arith
-
-pub both_true : (a b : Bool) → a && b ≡ true → (a ≡ true) × (b ≡ true)
-both_true true b h = (refl, h)
-both_true false b h = absurd (let bad : ⊥ = cc in bad)
 
 isnt : (b : Bool) → (b ≡ true → ⊥) → b ≡ false
 isnt true h = absurd (h refl)
@@ -58,8 +55,8 @@ pub number_says : (bound : ℕ) (ds : List ℕ) (v : ℕ) → bound ≤ 2 ^ 32 �
 unfolding number_of
 number_says bound ds v small h =
     let c = cond_some _ _ _ h in
-    let p = both_true (nat_le 49 (slice_index ds 0) && all_ascii_digits ds) (nat_lt (digits_value 10 ds) bound) c.0 in
-    let q = both_true (nat_le 49 (slice_index ds 0)) (all_ascii_digits ds) p.0 in
+    let p = and_parts (nat_le 49 (slice_index ds 0) && all_ascii_digits ds) (nat_lt (digits_value 10 ds) bound) c.0 in
+    let q = and_parts (nat_le 49 (slice_index ds 0)) (all_ascii_digits ds) p.0 in
     let first : 49 ≤ get_or ds 0 0 = grind (arith, nat_tests, q.0) in
     let below : digits_value 10 ds < bound = grind (arith, nat_tests, p.1) in
     let written : decimal (digits_value 10 ds) ≡ ds = decimal-digits_value own ds q.1 (nonempty ds first) (λ e. absurd (omega arith)) (omega arith) in
@@ -85,7 +82,7 @@ cond_option false o i h = absurd (let bad : ⊥ = cc in bad)
 no_dash_in : (ds rest : List ℕ) → all_ascii_digits ds ≡ true → position_or_len is_dash (ds ++ 45 ∷ rest) ≡ length ds
 no_dash_in [] rest h = refl
 no_dash_in (d ∷ ds) rest h =
-    let p = both_true (is_ascii_digit d) (all_ascii_digits ds) h in
+    let p = and_parts (is_ascii_digit d) (all_ascii_digits ds) h in
     let n : is_dash d ≡ false = isnt (is_dash d) (λ e. let same : d ≡ 45 = grind (arith, nat_tests, e) in let bad : is_ascii_digit 45 ≡ true = rw same at p.0 in let no : ⊥ = cc in no) in
     rw n (ap (λ (k : ℕ). 1 + k) (no_dash_in ds rest p.1) ∙ omega arith)
 

@@ -1,4 +1,8 @@
+pub mod IdOrder
 pub mod IdTexts
+pub mod Lists
+pub mod Options
 pub mod Order
+pub mod Tests
 pub mod UpdateTexts
 pub mod Weighing

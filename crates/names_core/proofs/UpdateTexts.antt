@@ -10,7 +10,7 @@ use Rattle.base64.specs.Engines.{standard}
 use Rattle.base64.specs.GeneralPurpose.{IsBytes, encode_of, decode_of}
 use Rattle.base64.proofs.EngineFacts.{decode_of-encode_of, decode_of_strict}
 use Rattle.names_core.specs.Updates.{Update, IsUpdate, update_bytes, fields_of, is_update, update_in, update_text, update_of}
-use Rattle.names_core.proofs.IdTexts.{both_true}
+use Rattle.std.proofs.lemmas.Bool.{and_parts}
 
 -- ---- bytes
 
@@ -67,7 +67,7 @@ update_in_says : (bytes : List ℕ) (u : Update) → update_in bytes ≡ Some u 
 unfolding update_in
 update_in_says bytes u h =
     let c = cond_update (is_update (fields_of bytes) && bytes_eq bytes (update_bytes (fields_of bytes))) (fields_of bytes) u h in
-    let p = both_true (is_update (fields_of bytes)) (bytes_eq bytes (update_bytes (fields_of bytes))) c.0 in
+    let p = and_parts (is_update (fields_of bytes)) (bytes_eq bytes (update_bytes (fields_of bytes))) c.0 in
     let written : bytes ≡ update_bytes (fields_of bytes) = same_text bytes (update_bytes (fields_of bytes)) (sym p.1) in
     (is_update_says u (ap is_update (sym c.1) ∙ p.0), written ∙ ap update_bytes c.1)
 

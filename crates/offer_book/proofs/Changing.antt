@@ -38,6 +38,3 @@ received_keeps key k state is_over b = ⊎_elim
 
 pub ended_job : (key : Numbered) (b : Booked) → (ended key b).job ≡ b.job
 ended_job key b = ⊎_elim (λ t. rw t refl) (λ t. rw t refl) (cases_Bool (same b.job.key key))
-
-pub received_job : (key : Numbered) (k : ℕ) (state : TaskState) (is_over : Bool) (b : Booked) → (received_update key k state is_over b).job ≡ b.job
-received_job key k state is_over b = ⊎_elim (λ t. rw t refl) (λ t. rw t refl) (cases_Bool (same b.job.key key))

@@ -8,21 +8,17 @@ use Rattle.messages.specs.declared.task.Booked.{Booked}
 use Rattle.offer_book.specs.Lists.{Located, same_id, find}
 use Rattle.offer_book.specs.Names.{NameIndex, IsIndex, is_among, keys_named}
 use Rattle.offer_book.specs.Held.{better, first_of, goes_before, IsHeld, IsTaskOf}
-use Rattle.offer_book.proofs.Ids.{same_id-true, same_id-refl}
+use Rattle.offer_book.proofs.Ids.{same_id-refl}
 use Rattle.offer_book.proofs.Standing.{find_has}
 use Rattle.offer_book.proofs.Indexing.{among_push}
+use Rattle.names_core.proofs.IdOrder.{before-irrefl, before_both}
+use Rattle.offer_book.proofs.Shared.{among_is}
 
 abbrev key_of : Booked → Numbered
 key_of b = b.job.key
 
-before_itself : (a : Numbered) → before a a ≡ false
-before_itself a = grind (arith, nat_tests)
-
-before_onward : (a b c : Numbered) → before a b ≡ true → before b c ≡ true → before a c ≡ true
-before_onward a b c h g = grind (arith, nat_tests)
-
 pub not_before_itself : (b : Booked) → goes_before b b ≡ false
-not_before_itself b = by b.ended (before_itself b.job.key)
+not_before_itself b = by b.ended (before-irrefl b.job.key)
   where
     by : (v : Bool) → before b.job.key b.job.key ≡ false → cond v (v && before b.job.key b.job.key) (v || before b.job.key b.job.key) ≡ false
     by true h = h
@@ -34,13 +30,13 @@ onward b c d = by b.ended c.ended d.ended
     by : (u v w : Bool) → cond u (v && before b.job.key c.job.key) (v || before b.job.key c.job.key) ≡ true
         → cond v (w && before c.job.key d.job.key) (w || before c.job.key d.job.key) ≡ true
         → cond u (w && before b.job.key d.job.key) (w || before b.job.key d.job.key) ≡ true
-    by true true true h g = before_onward b.job.key c.job.key d.job.key h g
+    by true true true h g = before_both b.job.key c.job.key d.job.key h g
     by true true false h g = g
     by true false w h g = absurd (true≢false (sym h))
     by false true true h g = refl
     by false true false h g = absurd (true≢false (sym g))
     by false false true h g = refl
-    by false false false h g = before_onward b.job.key c.job.key d.job.key h g
+    by false false false h g = before_both b.job.key c.job.key d.job.key h g
 
 module _ (l : List (List Booked)) where
   -- it is the first of the tasks of these keys
@@ -59,7 +55,7 @@ module _ (l : List (List Booked)) where
   among_cases k key ks h f g =
       ⊎_elim
       f
-      (λ t. g (same_id-true k key (or_cases (is_among k ks) (same_id k key) (sym (among_push k key ks) ∙ h) t)))
+      (λ t. g (among_is k key (or_cases (is_among k ks) (same_id k key) (sym (among_push k key ks) ∙ h) t)))
       (cases_Bool (is_among k ks))
 
   among_before : (k key : Numbered) (ks : List Numbered) → is_among k ks ≡ true → is_among k (ks ++ key ∷ []) ≡ true
@@ -73,7 +69,7 @@ module _ (l : List (List Booked)) where
       or_true false = refl
 
   itself : (k : Numbered) (e : Located Booked) → find key_of k l ≡ Some e → k ≡ e.item.job.key
-  itself k e h = same_id-true k e.item.job.key (find_has key_of l zero k e h)
+  itself k e h = among_is k e.item.job.key (find_has key_of l zero k e h)
 
   first_step : (ks : List Numbered) (key : Numbered) (best : Option (Located Booked)) → IsFirst ks best → IsFirst (ks ++ key ∷ []) (better best (find key_of key l))
   first_step ks key best is = by best (find key_of key l) refl is

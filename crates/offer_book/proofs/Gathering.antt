@@ -12,27 +12,16 @@ use Rattle.names_core.specs.Ids.{Numbered}
 use Rattle.messages.specs.declared.task.Booked.{Booked}
 use Rattle.offer_book.specs.Lists.{Located, same_id, find}
 use Rattle.offer_book.specs.Names.{AreAll, IsIndex, NameIndex, Texts, has_name, is_among, is_framework_of, is_named, keys_in, keys_named, keys_under}
+use Rattle.names_core.proofs.Tests.{or-right, same_tests}
+use Rattle.std.proofs.lemmas.Bool.{or_left}
 
 pub if_ok_map : {X E : Type 0} {P Q : X → Type 0} (r : Result X E) → IfOk r P → ((x : X) → P x → Q x) → IfOk r Q
 if_ok_map (Ok x) p f = f x p
 if_ok_map (Err e) p f = tt
 
-or_left : (a b : Bool) → a ≡ true → (a || b) ≡ true
-or_left true b h = refl
-or_left false b h = absurd (true≢false (sym h))
-
-or_right : (a b : Bool) → b ≡ true → (a || b) ≡ true
-or_right true b h = refl
-or_right false b h = h
-
 or_else : (a b : Bool) → (a || b) ≡ true → a ≡ false → b ≡ true
 or_else true b h e = absurd (true≢false e)
 or_else false b h e = h
-
-both_ways : (a b : Bool) → (a ≡ true → b ≡ true) → (b ≡ true → a ≡ true) → a ≡ b
-both_ways true b f g = sym (f refl)
-both_ways false true f g = g refl
-both_ways false false f g = refl
 
 among_append : (k : Numbered) (xs ys : List Numbered) → is_among k (xs ++ ys) ≡ (is_among k xs || is_among k ys)
 among_append k [] ys = refl
@@ -51,7 +40,7 @@ module _ {K : Type 0} where
       by : (b : Bool) → is_among k (keys_in (cond b (Some e.1) (lookup test es))) ≡ true → (is_among k (keys_in (lookup test es)) ≡ true → is_among k (joined es) ≡ true)
           → is_among k (e.1.items ++ joined es) ≡ true
       by true g later = among_append k e.1.items (joined es) ∙ or_left (is_among k e.1.items) (is_among k (joined es)) g
-      by false g later = among_append k e.1.items (joined es) ∙ or_right (is_among k e.1.items) (is_among k (joined es)) (later g)
+      by false g later = among_append k e.1.items (joined es) ∙ or-right (is_among k e.1.items) (is_among k (joined es)) (later g)
 
   -- a key among them is in an entry
   found_among : (k : Numbered) (es : List (K × Vec Numbered)) → is_among k (joined es) ≡ true
@@ -82,7 +71,7 @@ first_half false b h = absurd (true≢false (sym h))
 
 pub keys_are : (names : NameIndex) (l : List (List Booked)) (f : Numbered) (ks : List Numbered) → IsIndex names l → AreAll (λ text. keys_named f text names) ks
     → (key : Numbered) → is_among key ks ≡ is_framework_of f (find (λ x. x.job.key) key l)
-keys_are names l f ks index a key = both_ways (is_among key ks) (is_framework_of f (find (λ x. x.job.key) key l)) there (back (find (λ x. x.job.key) key l) refl)
+keys_are names l f ks index a key = same_tests (is_among key ks) (is_framework_of f (find (λ x. x.job.key) key l)) there (back (find (λ x. x.job.key) key l) refl)
   where
     named : (text : List ℕ) (o : Option (Located Booked)) → is_named f text o ≡ true → is_framework_of f o ≡ true
     named text None h = h

@@ -9,10 +9,5 @@ use Rattle.offer_book.specs.Lists.{same_id}
 pub same_id_equiv : IsEquivalence same_id
 same_id_equiv = and_equiv (on_equiv (λ i. i.run) nat_eq_equiv) (on_equiv (λ i. i.n) nat_eq_equiv)
 
-pub same_id-true : (i j : Numbered) → same_id i j ≡ true → i ≡ j
-same_id-true i j h =
-    let p = and_parts (i.run == j.run) (i.n == j.n) h in
-    λ t. record { run = eqb-true i.run j.run p.0 t; n = eqb-true i.n j.n p.1 t }
-
 pub same_id-refl : (i : Numbered) → same_id i i ≡ true
 same_id-refl i = same_id_equiv.refl i

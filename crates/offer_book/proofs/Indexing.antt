@@ -7,9 +7,10 @@ use Rattle.messages.specs.declared.task.Booked.{Booked}
 use Rattle.offer_book.specs.Lists.{Located, same_id, at_place, list_at, ids_of, find, without, Once}
 use Rattle.offer_book.specs.Tables.{moved}
 use Rattle.offer_book.specs.Names.{NameIndex, IsIndex, is_among, is_named, has_name, keys_named}
-use Rattle.offer_book.proofs.Ids.{same_id_equiv, same_id-true, same_id-refl}
+use Rattle.offer_book.proofs.Ids.{same_id_equiv, same_id-refl}
 use Rattle.offer_book.proofs.Placing.{found_push, find_more}
 use Rattle.offer_book.proofs.Taking.{find_without, find_clear, find_map}
+use Rattle.offer_book.proofs.Shared.{among_is}
 
 abbrev key_of : Booked → Numbered
 key_of b = b.job.key
@@ -24,10 +25,10 @@ among_filter k key (j ∷ ks) =
     ⊎_elim
     (λ t. rw t (among_filter k key ks ∙ ⊎_elim
     (λ u. rw u refl)
-    (λ u. let apart : same_id k j ≡ false = subst (λ i. same_id k i ≡ false) (same_id-true key j t) (same_id_equiv.symm k key ∙ u) in rw (u, apart) refl)
+    (λ u. let apart : same_id k j ≡ false = subst (λ i. same_id k i ≡ false) (among_is key j t) (same_id_equiv.symm k key ∙ u) in rw (u, apart) refl)
     (cases_Bool (same_id key k))))
     (λ t. rw t (⊎_elim
-    (λ u. let apart : same_id key k ≡ false = subst (λ i. same_id key i ≡ false) (sym (same_id-true k j u)) t in rw (u, apart) refl)
+    (λ u. let apart : same_id key k ≡ false = subst (λ i. same_id key i ≡ false) (sym (among_is k j u)) t in rw (u, apart) refl)
     (λ u. rw u (among_filter k key ks))
     (cases_Bool (same_id k j))))
     (cases_Bool (same_id key j))
@@ -59,7 +60,7 @@ index_push old new l n b within fresh is at f text k =
     by : (v : Bool) (w : Bool) → same_id b.job.key k ≡ v
         → is_among k (cond w (keys_named f text old ++ b.job.key ∷ []) (keys_named f text old)) ≡ cond (same_id b.job.key k) w (is_named f text (find key_of k l))
     by true w e =
-        let same : b.job.key ≡ k = same_id-true b.job.key k e in
+        let same : b.job.key ≡ k = among_is b.job.key k e in
         let turned : same_id k b.job.key ≡ true = same_id_equiv.symm k b.job.key ∙ e in
         let before : is_among k (keys_named f text old) ≡ false = is f text k ∙ ap (is_named f text) (subst (λ j. find key_of j l ≡ None) same fresh) in
         rw e (last w turned before)
@@ -95,7 +96,7 @@ index_without old new l key is at f text k =
     by true e = among_filter k key (keys_named f text old) ∙ ap (cond (same_id key k) false) (is f text k) ∙ gone (same_id key k) (find key_of k l)
     by false e =
         is f text k ∙ ⊎_elim
-        (λ t. rw t (subst (λ j. is_named f text (find key_of j l) ≡ false) (same_id-true key k t) e))
+        (λ t. rw t (subst (λ j. is_named f text (find key_of j l) ≡ false) (among_is key k t) e))
         (λ t. rw t refl)
         (cases_Bool (same_id key k))
 
@@ -135,7 +136,7 @@ forgotten_more between new l keys i key within here upto at f text k =
         among_filter k key (keys_named f text between) ∙ ap (cond (same_id key k) false) (upto f text k) ∙ rw (same_id_equiv.symm key k) (flat (is_among k (take i keys)) (same_id k key) (is_named f text (find key_of k l)))
     by false e =
         upto f text k ∙ plain (is_among k (take i keys)) (same_id k key) (is_named f text (find key_of k l))
-        (λ t. subst (λ j. is_named f text (find key_of j l) ≡ false) (sym (same_id-true k key t)) e)
+        (λ t. subst (λ j. is_named f text (find key_of j l) ≡ false) (sym (among_is k key t)) e)
 
 pub index_clear : (new : NameIndex) (l : List (List Booked)) (n : ℕ) → Once key_of zero l
     → ((f : Numbered) (text : List ℕ) (k : Numbered) → is_among k (keys_named f text new) ≡ cond (is_among k (ids_of key_of (list_at n l))) false (is_named f text (find key_of k l)))

@@ -1,11 +1,12 @@
-pub mod Ids
-pub mod Placing
-pub mod Taking
-pub mod Standing
 pub mod Changing
-pub mod Naming
-pub mod Indexing
 pub mod Choosing
-pub mod Summing
-mod Walking
 pub mod Gathering
+pub mod Ids
+pub mod Indexing
+pub mod Naming
+pub mod Placing
+pub mod Shared
+pub mod Standing
+pub mod Summing
+pub mod Taking
+mod Walking

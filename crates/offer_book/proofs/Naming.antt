@@ -9,7 +9,7 @@ use Rattle.std.specs.BTreeMap.{get, get_by_text, is_at}
 use Rattle.names_core.specs.Ids.{Numbered}
 use Rattle.offer_book.specs.Lists.{same_id}
 use Rattle.offer_book.specs.Names.{NameIndex, Texts, id_cmp, keys_in, keys_under, keys_within, keys_named}
-use Rattle.offer_book.proofs.Ids.{same_id-true}
+use Rattle.offer_book.proofs.Shared.{among_is}
 
 -- one text's keys are changed
 module _ (text : List ℕ) (old new : Texts) (w : Option (Vec Numbered))
@@ -41,7 +41,7 @@ module _ (framework : Numbered) (old new : NameIndex) (w : Option Texts)
       → (f : Numbered) (text : List ℕ) → keys_named f text new ≡ cond (same_id framework f && bytes_eq name text) (change (keys_named f text old)) (keys_named f text old)
   name_changed name change is f text =
       ⊎_elim
-      (λ t. let same : framework ≡ f = same_id-true framework f t in
+      (λ t. let same : framework ≡ f = among_is framework f t in
       framework_changed f text ∙ rw t (subst (λ g. keys_within text w ≡ cond (bytes_eq name text) (change (keys_named g text old)) (keys_named g text old)) same (is text)))
       (λ t. framework_changed f text ∙ rw t refl)
       (cases_Bool (same_id framework f))
@@ -49,7 +49,7 @@ module _ (framework : Numbered) (old new : NameIndex) (w : Option Texts)
   pub names_same : ((text : List ℕ) → keys_within text w ≡ keys_named framework text old) → (f : Numbered) (text : List ℕ) → keys_named f text new ≡ keys_named f text old
   names_same is f text =
       ⊎_elim
-      (λ t. let same : framework ≡ f = same_id-true framework f t in
+      (λ t. let same : framework ≡ f = among_is framework f t in
       framework_changed f text ∙ rw t (subst (λ g. keys_within text w ≡ keys_named g text old) same (is text)))
       (λ t. framework_changed f text ∙ rw t refl)
       (cases_Bool (same_id framework f))

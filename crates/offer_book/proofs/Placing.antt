@@ -5,7 +5,8 @@ use Rattle.std.proofs.lemmas.Map.Keys.{IsDistinct-push}
 use Rattle.std.specs.List.{IsDistinct, list_any}
 use Rattle.names_core.specs.Ids.{Numbered}
 use Rattle.offer_book.specs.Lists.{Located, same_id, at_place, ids_of, first, located_or, find_from, find, Once}
-use Rattle.offer_book.proofs.Ids.{same_id_equiv, same_id-true, same_id-refl}
+use Rattle.offer_book.proofs.Ids.{same_id_equiv, same_id-refl}
+use Rattle.offer_book.proofs.Shared.{among_is}
 
 module _ {T : Type 0} (id : T → Numbered) where
   pub first_has : (k : Numbered) (xs : List T) (x : T) → first id k xs ≡ Some x → same_id k (id x) ≡ true
@@ -75,7 +76,7 @@ module _ {T : Type 0} (id : T → Numbered) where
       let e = absent_head p (id y) xs l h in (
         distinct_push xs y o.0 e.0,
         (λ k x g. ⊎_elim
-            (λ t. subst (λ j. find_from id (suc p) j l ≡ None) (sym (same_id-true k (id y) t)) e.1)
+            (λ t. subst (λ j. find_from id (suc p) j l ≡ None) (sym (among_is k (id y) t)) e.1)
             (λ t. o.1 k x (sym (first_push_other xs y k t) ∙ g))
             (cases_Bool (same_id k (id y)))),
         o.2,
@@ -84,7 +85,7 @@ module _ {T : Type 0} (id : T → Numbered) where
       let e = absent_head p (id y) xs l h in (
         o.0,
         (λ k x g. ⊎_elim
-            (λ t. let none : first id k xs ≡ None = subst (λ j. first id j xs ≡ None) (sym (same_id-true k (id y) t)) e.0 in absurd (cc))
+            (λ t. let none : first id k xs ≡ None = subst (λ j. first id j xs ≡ None) (sym (among_is k (id y) t)) e.0 in absurd (cc))
             (λ t. find_push_other l (suc p) n y k t ∙ o.1 k x g)
             (cases_Bool (same_id k (id y)))),
         Once_push l (suc p) n y e.1 o.2,
@@ -94,7 +95,7 @@ module _ {T : Type 0} (id : T → Numbered) where
       → cond (same_id (id y) k) (Some (record { place = n; item = y })) (find id k l) ≡ find id k (at_place n (λ xs. xs ++ y ∷ []) l)
   found_push l n y k within h =
       ⊎_elim
-      (λ t. rw t (subst (λ j. Some (record { place = n; item = y }) ≡ find id j (at_place n (λ xs. xs ++ y ∷ []) l)) (same_id-true (id y) k t) (sym (there within h))))
+      (λ t. rw t (subst (λ j. Some (record { place = n; item = y }) ≡ find id j (at_place n (λ xs. xs ++ y ∷ []) l)) (among_is (id y) k t) (sym (there within h))))
       (λ t. let d : same_id k (id y) ≡ false = same_id_equiv.symm k (id y) ∙ t in rw t (sym (find_push_other l zero n y k d)))
       (cases_Bool (same_id (id y) k))
     where

@@ -10,9 +10,10 @@ use Rattle.std.specs.Map.{lookup}
 use Rattle.names_core.specs.Ids.{Numbered}
 use Rattle.offer_book.specs.Lists.{Located, same_id, at_place, list_at, ids_of, first, without, find_from, find, Once}
 use Rattle.offer_book.specs.Tables.{listed, items_of, lists_of, id_lists, IsTable, HaveTheirIds, moved}
-use Rattle.offer_book.proofs.Ids.{same_id_equiv, same_id-true, same_id-refl}
+use Rattle.offer_book.proofs.Ids.{same_id_equiv, same_id-refl}
 use Rattle.offer_book.proofs.Placing.{first_has, found_push, Once_push, id_lists_push, find_more, Once_more, id_lists_more}
 use Rattle.offer_book.proofs.Taking.{find_without, Once_without, without_in, without_nowhere, id_lists_without, find_clear, Once_clear, id_lists_clear, ids_at_place, find_map, Once_map, id_lists_map}
+use Rattle.offer_book.proofs.Shared.{among_is}
 
 pub on_err : {X E A : Type 0} (r : Result X E) → A → OnErr r A
 on_err (Ok x) a = tt
@@ -89,7 +90,7 @@ module _ {T : Type 0} (id : T → Numbered) where
       later : (k : Numbered) (y : T) → first id k xs ≡ Some y → listed (lookup (same_id k) es) ≡ y ∷ []
       later k y at = ⊎_elim
           (λ t. let none : first id (id x) xs ≡ None = first_absent xs (id x) (IsDistinct-head same_id (id x) (ids_of id xs) d) in
-          let no : first id k xs ≡ None = subst (λ j. first id j xs ≡ None) (sym (same_id-true k (id x) t)) none in absurd (cc))
+          let no : first id k xs ≡ None = subst (λ j. first id j xs ≡ None) (sym (among_is k (id x) t)) none in absurd (cc))
           (λ t. h k y (rw t at))
           (cases_Bool (same_id k (id x)))
 
@@ -159,7 +160,7 @@ module _ {T : Type 0} (id : T → Numbered) where
       → (q : Numbered) → lookup (same_id q) gs ≡ lookup (same_id q) es
   taken_back es fs gs vs l k e b new at back q =
       back q ∙ ap (cond (same_id k q) None) (at q)
-      ∙ undone (same_id k q) e _ (λ t. subst (λ j. lookup (same_id j) es ≡ None) (same_id-true k q t) (b.found k ∙ new))
+      ∙ undone (same_id k q) e _ (λ t. subst (λ j. lookup (same_id j) es ≡ None) (among_is k q t) (b.found k ∙ new))
 
   -- the same items
   pub IsTable-same : (es fs : List (Numbered × Located T)) (vs ws : List (Vec Numbered)) (l : List (List T)) → IsTable id es vs l → id_lists ws ≡ id_lists vs
@@ -240,7 +241,7 @@ module _ {T : Type 0} (id : T → Numbered) where
       → (q : Numbered) → lookup (same_id q) fs ≡ option_map (moved f) (lookup (same_id q) es)
   written es fs f k e stays have here at q =
       ⊎_elim
-      (λ t. let here_q : lookup (same_id q) es ≡ Some e = subst (λ j. lookup (same_id j) es ≡ Some e) (same_id-true k q t) here in
+      (λ t. let here_q : lookup (same_id q) es ≡ Some e = subst (λ j. lookup (same_id j) es ≡ Some e) (among_is k q t) here in
       at q ∙ rw (t, here_q) refl)
       (λ t. at q ∙ rw t (by t (lookup (same_id q) es) refl))
       (cases_Bool (same_id k q))
@@ -249,7 +250,7 @@ module _ {T : Type 0} (id : T → Numbered) where
       by t None at_w = refl
       by t (Some d) at_w =
           let has : same_id q (id d.item) ≡ true = have q d at_w in
-          let apart : same_id k (id d.item) ≡ false = subst (λ j. same_id k j ≡ false) (same_id-true q (id d.item) has) t in
+          let apart : same_id k (id d.item) ≡ false = subst (λ j. same_id k j ≡ false) (among_is q (id d.item) has) t in
           λ i. Some (record { place = d.place; item = sym (stays d.item apart) i })
 
   -- nothing is there to be written
@@ -262,7 +263,7 @@ module _ {T : Type 0} (id : T → Numbered) where
       by (Some d) at_w =
           let has : same_id q (id d.item) ≡ true = have q d at_w in
           ⊎_elim
-          (λ t. let no : lookup (same_id q) es ≡ None = subst (λ j. lookup (same_id j) es ≡ None) (same_id-true k q t) none in absurd (cc))
-          (λ t. let apart : same_id k (id d.item) ≡ false = subst (λ j. same_id k j ≡ false) (same_id-true q (id d.item) has) t in
+          (λ t. let no : lookup (same_id q) es ≡ None = subst (λ j. lookup (same_id j) es ≡ None) (among_is k q t) none in absurd (cc))
+          (λ t. let apart : same_id k (id d.item) ≡ false = subst (λ j. same_id k j ≡ false) (among_is q (id d.item) has) t in
           λ i. Some (record { place = d.place; item = sym (stays d.item apart) i }))
           (cases_Bool (same_id k q))

@@ -8,8 +8,8 @@ use Rattle.quantity.specs.Rows.{amount}
 use Rattle.quantity.proofs.Amounts.{amount-append}
 use Rattle.names_core.specs.Ids.{Numbered}
 use Rattle.offer_book.specs.Lists.{same_id, ids_of, first, without}
-use Rattle.offer_book.proofs.Ids.{same_id-true}
 use Rattle.offer_book.proofs.Taking.{without_none}
+use Rattle.offer_book.proofs.Shared.{among_is}
 
 module _ {T : Type 0} (id : T → Numbered) (part : T → List Row) where
   abbrev pub parts : List T → List Row
@@ -20,7 +20,7 @@ module _ {T : Type 0} (id : T → Numbered) (part : T → List Row) where
   absent (x ∷ xs) k h = rw h.0 (absent xs k h.1)
 
   behind : (x : T) (xs : List T) (k : Numbered) → IsDistinct same_id (ids_of id (x ∷ xs)) → same_id k (id x) ≡ true → first id k xs ≡ None
-  behind x xs k d t = subst (λ j. first id j xs ≡ None) (sym (same_id-true k (id x) t)) (absent xs (id x) (IsDistinct-head same_id (id x) (ids_of id xs) d))
+  behind x xs k d t = subst (λ j. first id j xs ≡ None) (sym (among_is k (id x) t)) (absent xs (id x) (IsDistinct-head same_id (id x) (ids_of id xs) d))
 
   pub sum_without : (name : List ℕ) (xs : List T) (k : Numbered) (x : T) → IsDistinct same_id (ids_of id xs) → first id k xs ≡ Some x
       → amount name (parts (without id k xs)) + amount name (part x) ≡ amount name (parts xs)

@@ -6,8 +6,9 @@ use Rattle.std.specs.List.{IsDistinct, AllByRecursion, list_any}
 use Rattle.names_core.specs.Ids.{Numbered}
 use Rattle.offer_book.specs.Lists.{Located, same_id, at_place, list_at, ids_of, first, without, located_or, find_from, find, Once}
 use Rattle.offer_book.specs.Tables.{moved}
-use Rattle.offer_book.proofs.Ids.{same_id_equiv, same_id-true, same_id-refl}
+use Rattle.offer_book.proofs.Ids.{same_id_equiv, same_id-refl}
 use Rattle.offer_book.proofs.Placing.{absent_head}
+use Rattle.offer_book.proofs.Shared.{among_is}
 
 module _ {T : Type 0} (id : T → Numbered) where
   pub first_without : (xs : List T) (k q : Numbered) → first id q (without id k xs) ≡ cond (same_id k q) None (first id q xs)
@@ -16,10 +17,10 @@ module _ {T : Type 0} (id : T → Numbered) where
       ⊎_elim
       (λ t. rw t (first_without xs k q ∙ ⊎_elim
       (λ u. rw u refl)
-      (λ u. let apart : same_id q (id x) ≡ false = subst (λ j. same_id q j ≡ false) (same_id-true k (id x) t) (same_id_equiv.symm q k ∙ u) in rw (u, apart) refl)
+      (λ u. let apart : same_id q (id x) ≡ false = subst (λ j. same_id q j ≡ false) (among_is k (id x) t) (same_id_equiv.symm q k ∙ u) in rw (u, apart) refl)
       (cases_Bool (same_id k q))))
       (λ t. rw t (⊎_elim
-      (λ u. let apart : same_id k q ≡ false = subst (λ j. same_id k j ≡ false) (sym (same_id-true q (id x) u)) t in rw (u, apart) refl)
+      (λ u. let apart : same_id k q ≡ false = subst (λ j. same_id k j ≡ false) (sym (among_is q (id x) u)) t in rw (u, apart) refl)
       (λ u. rw u (first_without xs k q))
       (cases_Bool (same_id q (id x)))))
       (cases_Bool (same_id k (id x)))

@@ -15,15 +15,11 @@ use Rattle.cluster_model.specs.Sides.{offer_rows, job_rows, unended}
 use Rattle.offer_tables.specs.Accounts.{taken_by, unended_rows}
 use Rattle.offer_tables.specs.Rows.{GivesBack, IsEmptied, IsGivenBack, IsLeft, IsReset, IsRow, TakesMore, amounts_left, has_room_in, left_at, left_in}
 use Rattle.offer_tables.specs.declared.agents.AgentRow.{AgentRow}
+use Rattle.names_core.proofs.Tests.{same_tests}
 
 -- as much of each name leaves as much
 pub left_alike : (total rows others : List Row) → ((name : List ℕ) → amount name rows ≡ amount name others) → amounts_left total rows ≡ amounts_left total others
 left_alike total rows others same = λ i. map (λ r. r.amount - same r.name i) total
-
-same_tests : (a b : Bool) → (a ≡ true → b ≡ true) → (b ≡ true → a ≡ true) → a ≡ b
-same_tests true b f g = sym (f refl)
-same_tests false true f g = g refl
-same_tests false false f g = refl
 
 -- a total covers two parts where it covers the first, and what is left the second
 covers-append : (total first second : List Row) → AreRows total → covers total (first ++ second) ≡ (covers total first && covers (rest_of total first) second)

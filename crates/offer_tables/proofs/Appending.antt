@@ -7,7 +7,7 @@ use Rattle.messages.specs.declared.task.Offer.{Offer}
 use Rattle.messages.specs.declared.task.Booked.{Booked}
 use Rattle.offer_tables.specs.Rows.{AreEmpty, IsBook, IsFirst, IsRow, Rows, SameOrMore, account, accounts, is_row_named}
 use Rattle.offer_tables.specs.declared.agents.AgentRow.{AgentRow}
-use Rattle.offer_tables.proofs.Placed.{bytes_turned}
+use Rattle.names_core.proofs.Lists.{bytes_eq-comm}
 
 empty_more : {X : Type 0} (l : List (List X)) → AreEmpty l → AreEmpty (l ++ [] ∷ [])
 empty_more [] h = (refl, tt)
@@ -93,7 +93,7 @@ seen_append (q ∷ rs) (os ∷ offers) (bs ∷ tasks) r h o b = ap (λ as_. acco
 pub new_name : (name : List ℕ) (rs : List AgentRow) → IsFirst (is_row_named name) rs None → list_any (bytes_eq name) (map (λ r. r.name) rs) ≡ false
 new_name name [] new = refl
 new_name name (r ∷ rs) new =
-    let here : bytes_eq name r.name ≡ false = bytes_turned name r.name ∙ new 0 r (omega arith) in
+    let here : bytes_eq name r.name ≡ false = bytes_eq-comm name r.name ∙ new 0 r (omega arith) in
     rw here (new_name name rs (λ k d low. new (suc k) d (omega arith)))
 
 map_push : (rs : List AgentRow) (r : AgentRow) → map (λ x. x.name) (rs ++ r ∷ []) ≡ map (λ x. x.name) rs ++ r.name ∷ []

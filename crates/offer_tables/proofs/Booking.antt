@@ -19,6 +19,7 @@ use Rattle.offer_tables.specs.declared.agents.AgentRow.{AgentRow}
 use Rattle.offer_tables.specs.declared.fault.BookFault.TheVariants.{Unknown, NoRoom, Twice}
 use Rattle.offer_tables.proofs.Amounts.{room_is}
 use Rattle.offer_tables.proofs.Changed.{agent_nowhere, agent_there, at_first_agent, row_at, settled, slot}
+use Rattle.offer_tables.proofs.Shared.{empty_at}
 
 -- ---- which records there are
 
@@ -222,20 +223,15 @@ task_found key (q ∷ rs) (os ∷ offers) (bs ∷ tasks) p e r h has row = by (f
 
 -- ---- the records on an agent
 
-empty_list : {X : Type 0} (l : List (List X)) (p : ℕ) → AreEmpty l → list_at p l ≡ []
-empty_list [] p h = refl
-empty_list (xs ∷ l) zero h = h.0
-empty_list (xs ∷ l) (suc p) h = empty_list l p h.1
-
 pub offers_there : (p : ℕ) (rs : List AgentRow) (offers : List (List Offer)) (tasks : List (List Booked)) → Rows rs offers tasks → list_at p offers ≡ offers_on p (accounts rs offers tasks)
-offers_there p [] offers tasks h = empty_list offers p h.0
+offers_there p [] offers tasks h = empty_at offers p h.0
 offers_there p (r ∷ rs) [] tasks h = absurd h
 offers_there p (r ∷ rs) (os ∷ offers) [] h = absurd h
 offers_there zero (r ∷ rs) (os ∷ offers) (bs ∷ tasks) h = refl
 offers_there (suc p) (r ∷ rs) (os ∷ offers) (bs ∷ tasks) h = offers_there p rs offers tasks h.1
 
 pub tasks_there : (p : ℕ) (rs : List AgentRow) (offers : List (List Offer)) (tasks : List (List Booked)) → Rows rs offers tasks → list_at p tasks ≡ tasks_on p (accounts rs offers tasks)
-tasks_there p [] offers tasks h = empty_list tasks p h.1
+tasks_there p [] offers tasks h = empty_at tasks p h.1
 tasks_there p (r ∷ rs) [] tasks h = absurd h
 tasks_there p (r ∷ rs) (os ∷ offers) [] h = absurd h
 tasks_there zero (r ∷ rs) (os ∷ offers) (bs ∷ tasks) h = refl

@@ -20,6 +20,7 @@ use Rattle.offer_tables.specs.declared.fault.BookFault.{BookFault}
 use Rattle.offer_tables.specs.declared.fault.BookFault.TheVariants.{OutOfMemory}
 use Rattle.offer_tables.proofs.Amounts.{row_less, offers_less, tasks_less}
 use Rattle.offer_tables.proofs.Changed.{rows_changed, accounts_changed, names_changed}
+use Rattle.offer_tables.proofs.Shared.{empty_at}
 
 -- memory was refused where nothing else is
 pub by_memory : {X Y : Type 0} (r : Result X BookFault) (due : Result Y BookFault) (good : Y) → IsErrAnd r (λ f. f ≡ OutOfMemory) → due ≡ Ok good → IfErr r (λ f. IsRefusal f due)
@@ -29,10 +30,6 @@ by_memory (Err f) due good h e = subst (λ g. IsRefusal g due) (sym h) (subst Is
 pub copied_some : {X : Type 0} (w : Option X) → is_some w ≡ true → w ≡ None → ⊥
 copied_some None h e = absurd (true≢false (sym h))
 copied_some (Some x) h e = absurd (cc)
-
-pub none_from : {X : Type 0} (w : Option X) → is_some w ≡ false → w ≡ None
-none_from None h = refl
-none_from (Some x) h = absurd (true≢false h)
 
 pub at_place-same : {X : Type 0} (p : ℕ) (xs : List X) → at_place p (λ x. x) xs ≡ xs
 at_place-same p [] = refl
@@ -102,11 +99,6 @@ without_key_is key [] = refl
 without_key_is key (b ∷ bs) =
     let turned : same b.job.key key ≡ same_id key b.job.key = same_turned key b.job.key in
     rw turned (⊎_elim (λ t. rw t (without_key_is key bs)) (λ t. rw t (ap (λ cs. b ∷ cs) (without_key_is key bs))) (cases_Bool (same_id key b.job.key)))
-
-empty_at : {X : Type 0} (l : List (List X)) (n : ℕ) → AreEmpty l → list_at n l ≡ []
-empty_at [] n h = refl
-empty_at (xs ∷ l) zero h = h.0
-empty_at (xs ∷ l) (suc n) h = empty_at l n h.1
 
 -- what stands at a place of a book stands on an agent
 pub offer_within : (rs : List AgentRow) (offers : List (List Offer)) (tasks : List (List Booked)) (n : ℕ) (id : Numbered) (o : Offer) → Rows rs offers tasks

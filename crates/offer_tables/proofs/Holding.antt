@@ -12,7 +12,7 @@ use Rattle.offer_book.specs.declared.located.Located.{Located}
 use Rattle.offer_book.specs.Lists.{same_id, ids_of, first, located_or, find_from, Once}
 use Rattle.offer_book.specs.Names.{has_name, is_framework_of as rows_of}
 use Rattle.offer_book.specs.Held.{goes_before, IsHeld, IsTaskOf}
-use Rattle.offer_book.proofs.Ids.{same_id_equiv, same_id-true, same_id-refl}
+use Rattle.offer_book.proofs.Ids.{same_id_equiv, same_id-refl}
 use Rattle.offer_book.proofs.Changing.{same_turned}
 use Rattle.offer_book.proofs.Choosing.{not_before_itself, onward, one_key}
 use Rattle.offer_tables.specs.Accounts.{Account, has_key}
@@ -24,6 +24,7 @@ use Rattle.offer_book.proofs.Taking.{here_is, place_from}
 use Rattle.offer_tables.proofs.Booking.{found_within, task_found, task_nowhere}
 use Rattle.offer_tables.proofs.Books.{task_within}
 use Rattle.offer_tables.proofs.Changed.{settled, slot}
+use Rattle.offer_book.proofs.Shared.{among_is}
 
 key_of : Booked → Numbered
 key_of b = b.job.key
@@ -136,7 +137,7 @@ first_own b (c ∷ bs) d h =
     ⊎_elim
     (λ t.
     let none : first (λ x. x.job.key) c.job.key bs ≡ None = first_absent bs c.job.key (IsDistinct-head same_id c.job.key (ids_of (λ x. x.job.key) bs) d) in
-    let no : first (λ x. x.job.key) b.job.key bs ≡ None = subst (λ j. first (λ x. x.job.key) j bs ≡ None) (sym (same_id-true b.job.key c.job.key t)) none in
+    let no : first (λ x. x.job.key) b.job.key bs ≡ None = subst (λ j. first (λ x. x.job.key) j bs ≡ None) (sym (among_is b.job.key c.job.key t)) none in
     absurd (cc))
     (λ t. rw t rest)
     (cases_Bool (same_id b.job.key c.job.key)))
@@ -274,7 +275,7 @@ module _ (f : Numbered) (text : List ℕ) (rs : List AgentRow) (offers : List (L
           same_one behind named (found_at d at) =
               let task = is_task q d at named in
               let after : goes_before e.item d.item ≡ false = subst (λ b. goes_before e.item b ≡ false) (sym at.item) behind in
-              let keys : d.item.job.key ≡ e.item.job.key = same_id-true d.item.job.key e.item.job.key (one_key d.item e.item (is.1 d task) after) in
+              let keys : d.item.job.key ≡ e.item.job.key = among_is d.item.job.key e.item.job.key (one_key d.item e.item (is.1 d task) after) in
               let both : Some d ≡ Some e = sym task.booked ∙ ap (λ k. find_from (λ x. x.job.key) zero k tasks) keys ∙ is.0.booked in
               let one : d ≡ e = cc in
               let name : r.name ≡ q.agent = at.named r (subst (λ x. r ≡ get_or rs (x.place - zero) r) (sym one) row) in

@@ -10,9 +10,7 @@ use Rattle.offer_book.proofs.Ids.{same_id_equiv, same_id-refl}
 use Rattle.offer_tables.specs.Accounts.{Account, without_at}
 use Rattle.offer_tables.specs.Found.{there}
 use Rattle.offer_tables.specs.Places.{IsNowhere, IsOnlyFrom}
-
-pub same-refl : (k : Numbered) → same k k ≡ true
-same-refl k = same_turned k k ∙ same_id-refl k
+use Rattle.names_core.proofs.IdOrder.{same_itself}
 
 pub at_place-twice : {X : Type 0} (n : ℕ) (f g : X → X) (xs : List X) → at_place n f (at_place n g xs) ≡ at_place n (λ x. f (g x)) xs
 at_place-twice n f g [] = refl
@@ -47,7 +45,7 @@ module _ {T : Type 0} (id : T → Numbered) where
   -- what is told of the item at an index that has the id
   pub index_told : (E : Type 0) (k : Numbered) (ys : List T) (i : ℕ) → i < length ys → k ≡ get_or (map id ys) i k → AllByRecursion (λ y. same (id y) k ≡ true → E) ys → E
   index_told E k [] i within is h = absurd (omega arith)
-  index_told E k (y ∷ ys) zero within is h = h.0 (subst (λ j. same j k ≡ true) is (same-refl k))
+  index_told E k (y ∷ ys) zero within is h = h.0 (subst (λ j. same j k ≡ true) is (same_itself k))
   index_told E k (y ∷ ys) (suc i) within is h = index_told E k ys i (omega arith) is h.1
 
   seconds : (E : Type 0) (k : Numbered) (x : T) (ys : List T) → AllByRecursion (λ y. same (id y) k ≡ true → (y ≡ x) × E) ys → AllByRecursion (λ y. same (id y) k ≡ true → E) ys
@@ -105,7 +103,7 @@ module _ {T : Type 0} (id : T → Numbered) where
       → AllByRecursion (λ y. same (id y) k ≡ true → t y ≡ true) xs → filter (λ y. not (same (id y) k)) xs ≡ without_at t i xs
   index_passes t k [] i d within is h = refl
   index_passes t k (y ∷ ys) zero d within is h =
-      let here : same (id y) k ≡ true = subst (λ j. same j k ≡ true) is (same-refl k) in
+      let here : same (id y) k ≡ true = subst (λ j. same j k ≡ true) is (same_itself k) in
       let passes : t y ≡ true = h.0 here in
       let rest : NoneOf k ys = others_apart k ys (subst (λ j. AllByRecursion (λ l. same_id j l ≡ false) (map id ys)) (sym is) (IsDistinct-head same_id (id y) (map id ys) d)) in
       rw (here, passes) (none_false (λ z. same (id z) k) ys rest)
@@ -118,7 +116,7 @@ module _ {T : Type 0} (id : T → Numbered) where
       → AllByRecursion (λ y. same (id y) k ≡ true → t y ≡ false) xs → without_at t i xs ≡ xs
   index_fails t k [] i within is h = refl
   index_fails t k (y ∷ ys) zero within is h =
-      let fails : t y ≡ false = h.0 (subst (λ j. same j k ≡ true) is (same-refl k)) in rw fails refl
+      let fails : t y ≡ false = h.0 (subst (λ j. same j k ≡ true) is (same_itself k)) in rw fails refl
   index_fails t k (y ∷ ys) (suc i) within is h = ap (λ zs. y ∷ zs) (index_fails t k ys i (omega arith) is h.1)
 
   -- from an index on, the items that pass are taken out

@@ -8,6 +8,7 @@ use Rattle.std.specs.List.{IsDistinct, position_or_len}
 use Rattle.std.specs.Cmp.Lexicographic.{bytes_decides}
 use Rattle.offer_tables.specs.Rows.{IsFirst, IsPlaceOf, is_row_named, is_row_of}
 use Rattle.offer_tables.specs.declared.agents.AgentRow.{AgentRow}
+use Rattle.names_core.proofs.Lists.{bytes_eq-comm}
 
 -- nothing passes where no place is found
 first_place : {X : Type 0} (p : X → Bool) (xs : List X) (k : ℕ) (d : X) → k < length xs → p (get_or xs k d) ≡ true → position_or_len p xs < length xs
@@ -28,16 +29,6 @@ passes_nowhere p xs none k d within =
     (λ t. t)
     (cases_Bool (p (get_or xs k d)))
 
-pub bytes_turned : (a b : List ℕ) → bytes_eq a b ≡ bytes_eq b a
-bytes_turned a b =
-    ⊎_elim
-    (λ t. let same : a ≡ b = (bytes_decides a b).0 t in ap (λ x. bytes_eq x b) same ∙ ap (bytes_eq b) (sym same))
-    (λ t. ⊎_elim
-    (λ u. let same : b ≡ a = (bytes_decides b a).0 u in absurd (true≢false (sym u ∙ ap (λ x. bytes_eq x a) same ∙ ap (bytes_eq a) (sym same) ∙ t)))
-    (λ u. t ∙ sym u)
-    (cases_Bool (bytes_eq b a)))
-    (cases_Bool (bytes_eq a b))
-
 names_of : List AgentRow → List (List ℕ)
 names_of rows = map (λ r. r.name) rows
 
@@ -53,7 +44,7 @@ module _ (name : List ℕ) (names : List (List ℕ)) (rows : List AgentRow) (nam
   as_many = ap length named ∙ length_map rows
 
   other_row : (r : AgentRow) → bytes_eq name r.name ≡ false → is_row_of name r ≡ false
-  other_row r h = and_false r.is_in (bytes_turned r.name name ∙ h)
+  other_row r h = and_false r.is_in (bytes_eq-comm r.name name ∙ h)
     where
       and_false : (v : Bool) {w : Bool} → w ≡ false → (v && w) ≡ false
       and_false true e = e
@@ -86,7 +77,7 @@ module _ (name : List ℕ) (names : List (List ℕ)) (rows : List AgentRow) (nam
         here d =
             let same : get_or rows p d ≡ r = same_there rows p d r place_within ∙ sym at in
             let is_d : (get_or rows p d).is_in ≡ true = ap (λ x. x.is_in) same ∙ is in
-            rw is_d (bytes_turned (get_or rows p d).name name ∙ named_there d)
+            rw is_d (bytes_eq-comm (get_or rows p d).name name ∙ named_there d)
 
     pub not_in : IsDistinct bytes_eq names → (r : AgentRow) → r ≡ get_or rows p r → r.is_in ≡ false → IsPlaceOf name rows None
     not_in apart r at is k d within =
@@ -112,12 +103,12 @@ pub named_at : (name : List ℕ) (names : List (List ℕ)) (rows : List AgentRow
 named_at name names rows named = by (position (bytes_eq name) names) refl
   where
     differs : (k : ℕ) (d : AgentRow) → bytes_eq name (get_or names k d.name) ≡ false → is_row_named name (get_or rows k d) ≡ false
-    differs k d h = bytes_turned (get_or rows k d).name name ∙ ap (bytes_eq name) (sym (name_at name names rows named k d)) ∙ h
+    differs k d h = bytes_eq-comm (get_or rows k d).name name ∙ ap (bytes_eq name) (sym (name_at name names rows named k d)) ∙ h
 
     by : (w : Option ℕ) → position (bytes_eq name) names ≡ w → IsFirst (is_row_named name) rows w
     by None at = λ k d within. differs k d (passes_nowhere (bytes_eq name) names at k d.name (omega (arith, as_many name names rows named)))
     by (Some p) at = (
       omega (arith, as_many name names rows named, (position-Some (bytes_eq name) names p [] at).0),
-      (λ d. bytes_turned (get_or rows p d).name name ∙ ap (bytes_eq name) (sym (name_at name names rows named p d)) ∙ (position-Some (bytes_eq name) names p d.name at).1),
+      (λ d. bytes_eq-comm (get_or rows p d).name name ∙ ap (bytes_eq name) (sym (name_at name names rows named p d)) ∙ (position-Some (bytes_eq name) names p d.name at).1),
       (λ k d low. differs k d ((position-Some (bytes_eq name) names p d.name at).2 k low)),
     )

@@ -21,14 +21,7 @@ use Rattle.offer_tables.specs.Reports.{AreBookableOn}
 use Rattle.offer_tables.specs.declared.fault.BookFault.{BookFault}
 use Rattle.offer_tables.specs.declared.fault.BookFault.TheVariants.{Unknown, NoRoom, Twice, OutOfMemory}
 use Rattle.offer_tables.proofs.Amounts.{covers_less, job_rows_are}
-
-or_both : (a b : Bool) → a ≡ false → b ≡ false → (a || b) ≡ false
-or_both true b e f = e
-or_both false b e f = f
-
-or_parts : (a b : Bool) → (a || b) ≡ false → (a ≡ false) × (b ≡ false)
-or_parts true b e = absurd cc
-or_parts false b e = (refl, e)
+use Rattle.std.proofs.lemmas.Bool.{or_from, or_parts}
 
 skipped : (t : Account → Bool) (f : Account → Account) (a : Account) (as_ : List Account) → t a ≡ false → at_first t f (a ∷ as_) ≡ a ∷ at_first t f as_
 skipped t f a as_ e = rw e refl
@@ -57,11 +50,11 @@ not_booked : (t : Account → Bool) (key : Numbered) (done : List Booked) (total
 not_booked t key done total [] none h = refl
 not_booked t key done total (a ∷ as_) none h =
     ⊎_elim
-    (λ e. let g : is_booked key as_ ≡ false = rw e at h in rw e (or_both (list_any (has_key key) done) (is_booked key as_) none g))
+    (λ e. let g : is_booked key as_ ≡ false = rw e at h in rw e (or_from (list_any (has_key key) done) (is_booked key as_) none g))
     (λ e.
     let g : (list_any (has_key key) a.booked || is_booked key (at_first t (reopened [] total) as_)) ≡ false = rw e at h in
     let parts = or_parts (list_any (has_key key) a.booked) (is_booked key (at_first t (reopened [] total) as_)) g in
-    rw e (or_both (list_any (has_key key) a.booked) (is_booked key (at_first t (reopened done total) as_)) parts.0 (not_booked t key done total as_ none parts.1)))
+    rw e (or_from (list_any (has_key key) a.booked) (is_booked key (at_first t (reopened done total) as_)) parts.0 (not_booked t key done total as_ none parts.1)))
     (cases_Bool (t a))
 
 middle : (P : Numbered → Type 0) (done rest : List Booked) (b : Booked) → AllByRecursion P (map (λ x. x.job.key) (done ++ b ∷ rest)) → P b.job.key
@@ -76,7 +69,7 @@ key_is_new : (done rest : List Booked) (b : Booked) → IsDistinct same_id (map 
 key_is_new [] rest b d = refl
 key_is_new (x ∷ done) rest b d =
     let keys = map (λ (y : Booked). y.job.key) (done ++ b ∷ rest) in
-    or_both (same x.job.key b.job.key) (list_any (has_key b.job.key) done)
+    or_from (same x.job.key b.job.key) (list_any (has_key b.job.key) done)
     (same_turned b.job.key x.job.key ∙ same_id_equiv.symm b.job.key x.job.key ∙ middle (λ j. same_id x.job.key j ≡ false) done rest b (IsDistinct-head same_id x.job.key keys d))
     (key_is_new done rest b (IsDistinct-tail same_id x.job.key keys d))
 

@@ -19,6 +19,9 @@ use Rattle.offer_tables.specs.Faults.{IsDue}
 use Rattle.offer_tables.specs.declared.fault.BookFault.{BookFault}
 use Rattle.offer_tables.specs.declared.fault.BookFault.TheVariants.{Unknown}
 use Rattle.offer_tables.proofs.Only.{Implies}
+use Rattle.names_core.proofs.IdOrder.{same-comm}
+use Rattle.std.proofs.Math.Bool.{or-false}
+use Rattle.std.proofs.lemmas.Bool.{or_parts}
 
 -- what a call leaves that takes a record out where there is one
 
@@ -28,10 +31,6 @@ settled_by true all old new (Ok x) none ok refused err = cc
 settled_by true all old new (Err f) none ok refused err = absurd (cc)
 settled_by false all old new (Ok x) none ok refused err = absurd (cc)
 settled_by false all old new (Err f) none ok refused err = err ∙ sym (none refl)
-
-or_parts : (a b : Bool) → (a || b) ≡ false → (a ≡ false) × (b ≡ false)
-or_parts true b e = absurd cc
-or_parts false b e = (refl, e)
 
 none_passes : {T : Type 0} (t : T → Bool) (xs : List T) → list_any t xs ≡ false → filter (λ x. not (t x)) xs ≡ xs
 none_passes t [] h = refl
@@ -61,15 +60,8 @@ task_dropped key old new r ok refused err = settled_by (is_booked key old) (map 
 
 -- the tests
 
-pub turned : (a b : Numbered) → same a b ≡ same b a
-turned a b = same_turned b a ∙ same_id_equiv.symm b a ∙ sym (same_turned a b)
-
-or_false : (x : Bool) → (x || false) ≡ x
-or_false true = refl
-or_false false = refl
-
 pub among_one : (id other : Numbered) → is_among (id ∷ []) other ≡ same other id
-among_one id other = or_false (same id other) ∙ turned id other
+among_one id other = or-false (same id other) ∙ same-comm id other
 
 pub named_implies : (framework id : Numbered) → Implies (λ (o : Offer). o.id) (is_named framework (id ∷ [])) id
 named_implies framework id o h = sym (among_one id o.id) ∙ (and_parts (same o.framework framework) (is_among (id ∷ []) o.id) h).1

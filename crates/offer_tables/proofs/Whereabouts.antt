@@ -9,7 +9,6 @@ use Rattle.messages.specs.declared.task.Booked.{Booked}
 use Rattle.offer_book.specs.declared.located.Located.{Located}
 use Rattle.offer_book.specs.Lists.{same_id, ids_of, list_at, first, find_from, Once}
 use Rattle.offer_book.proofs.Changing.{same_turned}
-use Rattle.offer_book.proofs.Ids.{same_id-true}
 use Rattle.offer_book.proofs.Placing.{absent_head}
 use Rattle.offer_book.specs.Lists.{at_place}
 use Rattle.offer_tables.specs.Accounts.{Account, is_agent}
@@ -18,6 +17,7 @@ use Rattle.offer_tables.proofs.Changed.{agent_nowhere}
 use Rattle.offer_tables.specs.Places.{IsAgentAt, IsNowhere, IsOnlyFrom}
 use Rattle.offer_tables.specs.Rows.{IsPlaceOf, Rows, account, accounts}
 use Rattle.offer_tables.specs.declared.agents.AgentRow.{AgentRow}
+use Rattle.offer_book.proofs.Shared.{among_is}
 
 module _ {T : Type 0} (id : T → Numbered) where
   none_first : (k : Numbered) (xs : List T) → first id k xs ≡ None → AllByRecursion (λ y. same (id y) k ≡ false) xs
@@ -32,7 +32,7 @@ module _ {T : Type 0} (id : T → Numbered) where
   behind_none k j [] e h E = tt
   behind_none k j (z ∷ ys) e h E = (
     (λ t. let own : same_id k (id z) ≡ true = sym (same_turned k (id z)) ∙ t in
-        absurd (true≢false (sym own ∙ ap (λ l. same_id l (id z)) (same_id-true k j e) ∙ h.0))),
+        absurd (true≢false (sym own ∙ ap (λ l. same_id l (id z)) (among_is k j e) ∙ h.0))),
     behind_none k j ys e h.1 E,
   )
 

@@ -17,6 +17,7 @@ use Rattle.quantity.specs.Merging.{is_below, count_below}
 use Rattle.quantity.proofs.Orders.{below_other, below_back, above_back, level_same, level_back}
 use Rattle.quantity.proofs.Amounts.{amount-cons, amount-above, amount_of_first, all_above}
 use Rattle.quantity.proofs.Walks.{count_one, count_none}
+use Rattle.std.proofs.Math.Bool.{or-false}
 
 -- how the amount of a name stands to the first row
 pub amount_behind : (name : List ℕ) (r : Row) (rows : List Row) → slice_cmp nat_cmp name r.name ≡ Greater → amount name (r ∷ rows) ≡ amount name rows
@@ -35,24 +36,20 @@ none_large : (rows : List Row) → AllByRecursion IsRow rows → list_any (λ r.
 none_large [] each = refl
 none_large (r ∷ rows) each = rw (le-ltb greatest_amount r.amount each.0.at_most) (none_large rows each.1)
 
-or_false : (b : Bool) → (b || false) ≡ b
-or_false true = refl
-or_false false = refl
-
 -- the raised name alone may pass the limit
 pub large_raised : (name : List ℕ) (n : ℕ) (rows : List Row) → IsStrictlySortedBy name_order rows → AllByRecursion IsRow rows
     → list_any (λ r. nat_lt greatest_amount r.amount) (raised name n rows) ≡ nat_lt greatest_amount (amount name rows + n)
 unfolding IsStrictlySortedBy
-large_raised name n [] ordered each = or_false (nat_lt greatest_amount n) ∙ ap (nat_lt greatest_amount) (omega arith)
+large_raised name n [] ordered each = or-false (nat_lt greatest_amount n) ∙ ap (nat_lt greatest_amount) (omega arith)
 large_raised name n (r ∷ rows) ordered each = by_order (slice_cmp nat_cmp name r.name) refl (large_raised name n rows ordered.1 each.1)
   where
     by_order : (o : Ordering) → slice_cmp nat_cmp name r.name ≡ o → list_any (λ r. nat_lt greatest_amount r.amount) (raised name n rows) ≡ nat_lt greatest_amount (amount name rows + n)
         → list_any (λ r. nat_lt greatest_amount r.amount) (match_ordering o (row name n ∷ r ∷ rows) (row name (r.amount + n) ∷ rows) (r ∷ raised name n rows))
         ≡ nat_lt greatest_amount (amount name (r ∷ rows) + n)
     by_order Less e behind =
-        rw (none_large (r ∷ rows) each, or_false (nat_lt greatest_amount n)) (ap (nat_lt greatest_amount) (omega (arith, amount_before name r rows ordered e)))
+        rw (none_large (r ∷ rows) each, or-false (nat_lt greatest_amount n)) (ap (nat_lt greatest_amount) (omega (arith, amount_before name r rows ordered e)))
     by_order Equal e behind =
-        rw (none_large rows each.1, or_false (nat_lt greatest_amount (r.amount + n))) (ap (nat_lt greatest_amount) (omega (arith, amount_here name r rows ordered e)))
+        rw (none_large rows each.1, or-false (nat_lt greatest_amount (r.amount + n))) (ap (nat_lt greatest_amount) (omega (arith, amount_here name r rows ordered e)))
     by_order Greater e behind =
         rw (le-ltb greatest_amount r.amount each.0.at_most) (behind ∙ ap (λ m. nat_lt greatest_amount (m + n)) (sym (amount_behind name r rows e)))
 

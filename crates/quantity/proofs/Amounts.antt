@@ -11,6 +11,7 @@ use Rattle.std.proofs.lemmas.List.Sums.{sum_by-append, sum_by-cons}
 use Rattle.quantity.specs.Rows.{Row, part_of, amount, covers, name_order, IsRow, AreRows, row}
 use Rattle.quantity.specs.Laws.{AtLeast, SameAmounts, AmountsAddUp, CoversIsAtLeast, AmountsDetermineRows}
 use Rattle.quantity.proofs.Orders.{above_other, below_back, below_trans, level_same, same_itself}
+use Rattle.quantity.proofs.Shared.{named}
 
 pub amount-append : AmountsAddUp
 amount-append name rows others = sum_by-append (part_of name) rows others
@@ -33,32 +34,13 @@ pub amount_of_first : (r : Row) (rows : List Row) → IsStrictlySortedBy name_or
 unfolding IsStrictlySortedBy
 amount_of_first r rows ordered = omega (arith, amount-cons r.name r rows, part_of_own r, amount-above r.name rows ordered.0)
 
--- what a test of each of some rows tells of a name: they have nothing of it, or the test speaks of it
-tested : (total rows some : List Row) (name : List ℕ) → list_all (λ r. nat_le (amount r.name rows) (amount r.name total)) some ≡ true
-    → (amount name some ≡ 0) ⊎ (amount name rows ≤ amount name total)
-tested total rows [] name h = inl refl
-tested total rows (r ∷ some) name h = at_row (pointwise nat_eq r.name name) refl (tested total rows some name parts.1)
-  where
-    parts : (nat_le (amount r.name rows) (amount r.name total) ≡ true) × (list_all (λ r. nat_le (amount r.name rows) (amount r.name total)) some ≡ true)
-    parts = and_parts _ _ h
-
-    here : amount r.name rows ≤ amount r.name total
-    here = leb-true _ _ parts.0
-
-    at_row : (b : Bool) → pointwise nat_eq r.name name ≡ b → (amount name some ≡ 0) ⊎ (amount name rows ≤ amount name total)
-        → (amount name (r ∷ some) ≡ 0) ⊎ (amount name rows ≤ amount name total)
-    at_row true e others = inr (subst (λ n. amount n rows ≤ amount n total) ((bytes_decides r.name name).0 e) here)
-    at_row false e others =
-        let none : part_of name r ≡ 0 = rw e refl in
-        elim others [ inl z ↦ inl (omega (arith, amount-cons name r some, none, z)) | inr le ↦ inr le ]
-
 test_passes : (total rows some : List Row) → AtLeast total rows → list_all (λ r. nat_le (amount r.name rows) (amount r.name total)) some ≡ true
 test_passes total rows [] h = refl
 test_passes total rows (r ∷ some) h = and_from _ _ (le-leb _ _ (h r.name)) (test_passes total rows some h)
 
 pub covers_is_at_least : CoversIsAtLeast
 covers_is_at_least total rows =
-    (λ h name. elim (tested total rows rows name h) [ inl none ↦ omega (arith, none) | inr le ↦ le ], λ h. test_passes total rows rows h)
+    (λ h name. elim (named total rows rows name h) [ inl none ↦ omega (arith, none) | inr le ↦ le ], λ h. test_passes total rows rows h)
 
 -- rows that stand behind one row stand behind every name before it
 pub all_above : (name : List ℕ) (r : Row) (rows : List Row) → slice_cmp nat_cmp name r.name ≡ Less → AllByRecursion (λ s. name_order r s ≡ Less) rows

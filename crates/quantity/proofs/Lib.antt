@@ -1,7 +1,8 @@
-pub mod Texts
-pub mod Orders
-pub mod Amounts
-pub mod Rests
-pub mod Sums
-pub mod Walks
 pub mod Adds
+pub mod Amounts
+pub mod Orders
+pub mod Rests
+pub mod Shared
+pub mod Sums
+pub mod Texts
+pub mod Walks

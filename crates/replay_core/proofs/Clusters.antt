@@ -117,6 +117,3 @@ pub refused_as : (s now new : Story) (step : Step) (fault : ClusterFault) → s 
     → (fault ≡ faults.OutOfMemory) ⊎ ((due now step ≡ Err fault) × (new ≡ now))
 refused_as s now new step fault same (inl e) stays = inl e
 refused_as s now new step fault same (inr e) stays = inr (ap (λ (t : Story). due t step) (sym same) ∙ e, stays ∙ same)
-
-pub numbers_so : (count n : ℕ) → 0 < n → n ≤ count → is_number count n ≡ true
-numbers_so count n first last = grind (arith, nat_tests)

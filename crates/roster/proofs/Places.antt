@@ -19,18 +19,3 @@ pub same_set : (i : ℕ) (ss : List Side) (s : Side) → i < length ss → s ≡
 same_set i [] s within is = absurd (omega arith)
 same_set zero (t ∷ ts) s within is = ap (λ (u : Side). u ∷ ts) is
 same_set (suc i) (t ∷ ts) s within is = ap (λ us. t ∷ us) (same_set i ts s (omega arith) is)
-
-pub told_here : {X : Type 0} (i : ℕ) (field : Side → X) (none : X) (ss : List Side) (s : Side) → i < length ss → s ≡ get_or ss i s → field s ≡ value_at i field none ss
-told_here i field none [] s within is = absurd (omega arith)
-told_here zero field none (t ∷ ts) s within is = ap field is
-told_here (suc i) field none (t ∷ ts) s within is = told_here i field none ts s (omega arith) is
-
-pub told_past : {X : Type 0} (i : ℕ) (field : Side → X) (none : X) (ss : List Side) → length ss ≤ i → none ≡ value_at i field none ss
-told_past i field none [] past = refl
-told_past zero field none (t ∷ ts) past = absurd (omega arith)
-told_past (suc i) field none (t ∷ ts) past = told_past i field none ts (omega arith)
-
--- what holds of an Ok, and what follows of it
-pub on_ok : {T E P Q : Type 0} (r : Result T E) → (P → Q) → OnOk r P → OnOk r Q
-on_ok (Ok x) follows h = follows h
-on_ok (Err e) follows h = h

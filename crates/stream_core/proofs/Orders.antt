@@ -6,24 +6,18 @@ use Rattle.std.proofs.lemmas.Bool.Decides.{nat_tests}
 use Rattle.std.proofs.lemmas.List.{drop-append-le, drop-drop, length-append, length-drop}
 use Rattle.std.proofs.lemmas.Option.{slice_get_past, slice_get_within}
 use Rattle.stream_core.specs.Links.{Link, AreIssued, IsSent, applied, is_news, issued, issued_count, taken}
+use Rattle.names_core.proofs.Lists.{slice_get-push}
+use Rattle.std.proofs.lemmas.Bool.{and_parts}
 
 get_drop : {A : Type 0} (n : ℕ) (xs : List A) (place : ℕ) → slice_get (drop n xs) place ≡ slice_get xs (n + place)
 get_drop zero xs place = let none : place ≡ 0 + place = omega arith in ap (slice_get xs) none
 get_drop (suc n) [] place = slice_get_past [] place (omega arith) ∙ sym (slice_get_past [] (suc n + place) (omega arith))
 get_drop (suc n) (x ∷ xs) place = let more : suc (n + place) ≡ suc n + place = omega arith in get_drop n xs place ∙ ap (slice_get (x ∷ xs)) more
 
-get_last : {A : Type 0} (xs : List A) (y : A) → slice_get (xs ++ y ∷ []) (length xs) ≡ Some y
-get_last [] y = refl
-get_last (x ∷ xs) y = get_last xs y
-
 drop_at_place : {A : Type 0} (n : ℕ) (xs : List A) (x : A) → slice_get xs n ≡ Some x → drop n xs ≡ x ∷ drop (suc n) xs
 drop_at_place n [] x e = absurd (let within = slice_get_within [] n x e in omega (arith, within))
 drop_at_place zero (y ∷ ys) x e = let is : y ≡ x = cc in ap (λ w. w ∷ ys) is
 drop_at_place (suc n) (y ∷ ys) x e = drop_at_place n ys x e
-
-and_parts : (a b : Bool) → (a && b) ≡ true → (a ≡ true) × (b ≡ true)
-and_parts true b e = (refl, e)
-and_parts false b e = absurd cc
 
 all_counted : {C : Type 0} (all : List C) (l : Link C) → AreIssued all l → issued_count l ≡ length all
 all_counted all l h = let rest : length l.waiting ≡ length all - l.known = ap length h.waiting ∙ length-drop l.known all in omega (arith, rest, h.known)
@@ -35,7 +29,7 @@ issued_stay all command l h = record {
 }
 
 pub issued_numbered : {C : Type 0} (all : List C) (command : C) (l : Link C) → AreIssued all l → IsSent (all ++ command ∷ []) (suc (issued_count l), command)
-issued_numbered all command l h = (issued_count l, refl, ap (slice_get (all ++ command ∷ [])) (all_counted all l h) ∙ get_last all command)
+issued_numbered all command l h = (issued_count l, refl, ap (slice_get (all ++ command ∷ [])) (all_counted all l h) ∙ slice_get-push all command)
 
 pub waiting_numbered : {C : Type 0} (all : List C) (place : ℕ) (command : C) (l : Link C) → AreIssued all l → slice_get l.waiting place ≡ Some command → IsSent all (suc (l.known + place), command)
 waiting_numbered all place command l h e = (l.known + place, refl, sym (get_drop l.known all place) ∙ ap (λ ws. slice_get ws place) (sym h.waiting) ∙ e)

@@ -3,8 +3,9 @@ use Rattle.std.specs.Prelude.{OnOk}
 use Rattle.cluster_channels.specs.Numbers.{is_number}
 use Rattle.messages.specs.declared.steps.Step.{Step}
 use Rattle.cluster_core.specs.StepRuns.{Passes}
-use Rattle.cluster_core.proofs.RunSteps.{numbers_so, passes_so}
+use Rattle.cluster_core.proofs.RunSteps.{passes_so}
 use Rattle.cluster_core.proofs.running.pass.Goals as goal
+use Rattle.cluster_channels.proofs.Shared.{numbers_so}
 
 pub returns-clause-passed : goal.returns-clause-passed
 returns-clause-passed c =

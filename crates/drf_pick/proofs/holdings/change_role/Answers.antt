@@ -3,8 +3,8 @@ use Rattle.std.specs.List.{position}
 use Rattle.drf_pick.specs.Shares.{Holder, at_first, is_holder, is_role, of_role, role_given, role_returning, roles_moved_of}
 use Rattle.drf_pick.proofs.Places.{first_at, first_same, none_at, unchanged}
 use Rattle.drf_pick.proofs.RoleSums.{move_room}
-use Rattle.drf_pick.proofs.Shown.{name_is}
 use Rattle.drf_pick.proofs.holdings.change_role.Goals as goal
+use Rattle.names_core.proofs.Lists.{bytes_eq-is}
 
 pub returns-in_default-clause-holders : goal.returns-in_default-clause-holders
 returns-in_default-clause-holders c =
@@ -29,7 +29,7 @@ returns-then-is-clause-holders c =
     let at : position test hs ≡ Some c.in-Some.place = sym (rw c.deref.ensures.value at c.holder_place.ensures) ∙ c.in-Some.is in
     let first = first_at test hs c.in-Some.place h at c.index.ensures in
     let e : bytes_eq h.role role ≡ true = sym c.is.ensures ∙ c.if-is.true in
-    first_same test (of_role role) hs h first.found (ap (λ (r : List ℕ). record h { role = r }) (sym (name_is h.role role e)))
+    first_same test (of_role role) hs h first.found (ap (λ (r : List ℕ). record h { role = r }) (sym (bytes_eq-is h.role role e)))
 
 pub returns-then-is-clause-roles : goal.returns-then-is-clause-roles
 returns-then-is-clause-roles c =

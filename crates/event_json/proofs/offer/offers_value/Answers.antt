@@ -4,8 +4,10 @@ use Rattle.serde_json.specs.View.{items_of}
 use Rattle.serde_json.proofs.Views.{view-Array}
 use Rattle.event_json.specs.Bounds.{IsOffer}
 use Rattle.event_json.specs.Offers.{offer_data}
-use Rattle.event_json.proofs.Each.{all_more, written_more, written_all, all_of_take}
+use Rattle.event_json.proofs.Each.{written_more}
 use Rattle.event_json.proofs.offer.offers_value.Goals as goal
+use Rattle.event_json.proofs.Shared.{written_all}
+use Rattle.names_core.proofs.Lists.{all_more, all_of_take}
 
 pub loop-offer-preserved : goal.loop-offer-preserved
 loop-offer-preserved c =

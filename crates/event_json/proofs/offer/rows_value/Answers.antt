@@ -3,8 +3,9 @@ use Rattle.serde_json.specs.Data.{array}
 use Rattle.serde_json.specs.View.{items_of}
 use Rattle.serde_json.proofs.Views.{view-Array}
 use Rattle.event_json.specs.Offers.{row_data}
-use Rattle.event_json.proofs.Each.{written_more, written_all}
+use Rattle.event_json.proofs.Each.{written_more}
 use Rattle.event_json.proofs.offer.rows_value.Goals as goal
+use Rattle.event_json.proofs.Shared.{written_all}
 
 pub loop-row-preserved : goal.loop-row-preserved
 loop-row-preserved c =

@@ -3,8 +3,8 @@ use Rattle.std.proofs.lemmas.Result.{IfOk-weaker}
 use Rattle.serde_json.specs.View.{view}
 use Rattle.serde_json.specs.Written.{compact_text, has_float}
 use Rattle.event_json.specs.Texts.{total_form}
-use Rattle.event_json.proofs.RecordFloats.{rows}
 use Rattle.event_json.proofs.record.total_text.Goals as goal
+use Rattle.event_json.proofs.Shared.{rows}
 
 pub returns-clause-text : goal.returns-clause-text
 returns-clause-text c =

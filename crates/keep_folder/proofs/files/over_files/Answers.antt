@@ -5,9 +5,7 @@ use Rattle.sqlite.specs.Files.{file_state}
 use Rattle.sqlite_catalog.specs.Listing.{IsSound}
 use Rattle.keep_store.proofs.OpenLemmas.{not_new, not_first, not_second}
 use Rattle.keep_folder.proofs.files.over_files.Goals as goal
-
-then : {X Y : Type 0} (r : Result X Y) {P Q : X → Type 0} → IfOk r P → ((x : X) → P x → Q x) → IfOk r Q
-then r {P} {Q} h f = IfOk-weaker r P Q f h
+use Rattle.names_core.proofs.Options.{then}
 
 pub returns-clause-honest : goal.returns-clause-honest
 returns-clause-honest g c = then c.keeper_over.result c.keeper_over.ensures.found (λ keeper read_back clean.

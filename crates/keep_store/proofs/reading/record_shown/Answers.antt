@@ -13,9 +13,7 @@ use Rattle.keep_tables.specs.Tables.{amount_shown}
 use Rattle.keep_store.proofs.RiseLemmas.{put_are_tasks}
 use Rattle.keep_store.proofs.LoadLemmas.{untold_damaged, headless_damaged, headless_total, old_form, unheaded_damaged, text_kept, misfit_damaged, only_text, none_at, front}
 use Rattle.keep_store.proofs.reading.record_shown.Goals as goal
-
-then : {X Y : Type 0} (r : Result X Y) {P Q : X → Type 0} → IfOk r P → ((x : X) → P x → Q x) → IfOk r Q
-then r {P} {Q} h f = IfOk-weaker r P Q f h
+use Rattle.names_core.proofs.Options.{same_some, then}
 
 err_of : {X : Type 0} (e : KeepFault) → e ≡ Damaged → ◌≡◌ {A = Result X KeepFault} (Err e) (Err Damaged)
 err_of e is = ap (λ (f : KeepFault). Err f) is
@@ -81,9 +79,6 @@ returns-then-not-is_empty-2-clause-damaged c = λ db shows damaged.
     let no_task : length c.args.tasks.now ≡ 0 = search rules in
     let some : length c.args.amounts.now ≢ 0 = search rules in
     headless_total db c.args.records.now c.args.heads.now c.args.tasks.now c.args.amounts.now shows (none_at c.args.heads.now none) no_task some
-
-same_some : {A : Type 0} {x y : A} → ◌≡◌ {A = Option A} (Some x) (Some y) → x ≡ y
-same_some e = cc
 
 pub returns-clause-read_back : goal.returns-clause-read_back
 returns-clause-read_back c =

@@ -4,8 +4,8 @@ use Rattle.messages.specs.declared.record.RecordedTask.{RecordedTask}
 use Rattle.keep_store.specs.SavesKept.{IsPut}
 use Rattle.keep_store.specs.Kept.{AreTasksOf, IsPlaced}
 use Rattle.keep_store.proofs.FoundLemmas.{found_seen, found_knows}
-use Rattle.keep_store.proofs.SaveLemmas.{keys_of}
 use Rattle.keep_store.proofs.seen.seen_in.Goals as goal
+use Rattle.agent_core.proofs.Shared.{keys_of}
 
 pub returns-clause-put : goal.returns-clause-put
 returns-clause-put c =

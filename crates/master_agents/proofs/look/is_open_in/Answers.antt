@@ -1,6 +1,6 @@
 use Rattle.std.proofs.Common.{◌∙◌, arith, false}
-use Rattle.master_agents.proofs.Joining.{told_here, told_past}
 use Rattle.master_agents.proofs.look.is_open_in.Goals as goal
+use Rattle.roster.proofs.Shared.{told_here, told_past}
 
 pub returns-then-place-entries : goal.returns-then-place-entries
 returns-then-place-entries c = told_past c.args.place (λ s. s.is_open) false c.args.entries.now (omega arith)

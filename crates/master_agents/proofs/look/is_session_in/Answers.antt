@@ -1,7 +1,7 @@
 use Rattle.std.proofs.Common.{◌∙◌, arith, false}
 use Rattle.master_agents.specs.Looks.{is_session}
-use Rattle.master_agents.proofs.Joining.{told_here, told_past}
 use Rattle.master_agents.proofs.look.is_session_in.Goals as goal
+use Rattle.roster.proofs.Shared.{told_here, told_past}
 
 pub returns-then-place-entries : goal.returns-then-place-entries
 returns-then-place-entries c = told_past c.args.place (is_session c.args.session) false c.args.entries.now (omega arith)

@@ -1,6 +1,6 @@
 use Rattle.std.proofs.Common.{◌∙◌, arith}
-use Rattle.master_agents.proofs.Joining.{told_here, told_past}
 use Rattle.master_agents.proofs.look.session_in.Goals as goal
+use Rattle.roster.proofs.Shared.{told_here, told_past}
 
 pub returns-then-place-entries : goal.returns-then-place-entries
 returns-then-place-entries c = told_past c.args.place (λ s. s.session) 0 c.args.entries.now (omega arith)

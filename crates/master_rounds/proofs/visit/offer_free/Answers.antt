@@ -3,10 +3,7 @@ use Rattle.master_rounds.specs.Candidates.{AreCandidates}
 use Rattle.master_rounds.proofs.AtPlaces.{candidates_kept}
 use Rattle.master_rounds.specs.Visits.{Progress}
 use Rattle.master_rounds.proofs.visit.offer_free.Goals as goal
-
-where_ok : {T E P Q : Type 0} (result : Result T E) → (P → Q) → OnOk result P → OnOk result Q
-where_ok (Ok done) step is = step is
-where_ok (Err fault) step is = tt
+use Rattle.names_core.proofs.Options.{where_ok}
 
 -- the candidates stay when an offer is made
 pub returns-in-Some-clause-candidates : goal.returns-in-Some-clause-candidates

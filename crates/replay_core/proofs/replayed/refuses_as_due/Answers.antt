@@ -1,6 +1,7 @@
 use Rattle.cluster_channels.specs.Numbers.{is_number}
-use Rattle.replay_core.proofs.Clusters.{numbers_so, refused_due}
+use Rattle.replay_core.proofs.Clusters.{refused_due}
 use Rattle.replay_core.proofs.replayed.refuses_as_due.Goals as goal
+use Rattle.cluster_channels.proofs.Shared.{numbers_so}
 
 pub returns : goal.returns
 returns c step fault =

@@ -1,7 +1,9 @@
 use Rattle.std.proofs.Common.{◌≡◌, sym, arith, false, None}
 use Rattle.roster.specs.Sessions.{issued_number, with_command, is_spent}
-use Rattle.roster.proofs.Places.{at_place_set, at_place_past, told_here, told_past, on_ok}
+use Rattle.roster.proofs.Places.{at_place_set, at_place_past}
 use Rattle.roster.proofs.roster.issue_in.Goals as goal
+use Rattle.names_core.proofs.Options.{where_ok}
+use Rattle.roster.proofs.Shared.{told_here, told_past}
 
 pub returns-then-place-len-clause-number : goal.returns-then-place-len-clause-number
 returns-then-place-len-clause-number c = told_past c.args.place (issued_number) None c.args.entries.now.items (omega (arith, c.len.ensures))
@@ -17,7 +19,7 @@ returns-clause-number c = rw (sym (told_here c.args.place (issued_number) None c
 
 pub returns-clause-ok : goal.returns-clause-ok
 returns-clause-ok c =
-    on_ok c.issue.result (λ (e : c.issue.new.self ≡ with_command c.args.command c.index_mut.result.now). rw e (at_place_set c.args.place (with_command c.args.command) c.args.entries.now.items c.index_mut.result.now (omega (arith, c.len.ensures)) c.index_mut.ensures.value)) c.issue.ensures.ok
+    where_ok c.issue.result (λ (e : c.issue.new.self ≡ with_command c.args.command c.index_mut.result.now). rw e (at_place_set c.args.place (with_command c.args.command) c.args.entries.now.items c.index_mut.result.now (omega (arith, c.len.ensures)) c.index_mut.ensures.value)) c.issue.ensures.ok
 
 pub returns-clause-numbers : goal.returns-clause-numbers
 returns-clause-numbers c = rw (sym (told_here c.args.place (is_spent) false c.args.entries.now.items c.index_mut.result.now (omega (arith, c.len.ensures)) c.index_mut.ensures.value)) c.issue.ensures.numbers

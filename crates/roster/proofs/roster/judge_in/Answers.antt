@@ -1,7 +1,7 @@
 use Rattle.std.proofs.Common.{◌∙◌, arith, None}
 use Rattle.cluster_model.specs.Mails.{in_session}
-use Rattle.roster.proofs.Places.{told_here, told_past}
 use Rattle.roster.proofs.roster.judge_in.Goals as goal
+use Rattle.roster.proofs.Shared.{told_here, told_past}
 
 pub returns-then-place-entries : goal.returns-then-place-entries
 returns-then-place-entries c = told_past c.args.place (λ s. in_session s c.args.session) None c.args.entries.now (omega arith)

@@ -1,7 +1,8 @@
 use Rattle.std.proofs.Common.{arith, false, Ok}
 use Rattle.roster.specs.Sessions.{reported, after_report}
-use Rattle.roster.proofs.Places.{at_place_set, at_place_past, told_here, told_past}
+use Rattle.roster.proofs.Places.{at_place_set, at_place_past}
 use Rattle.roster.proofs.roster.report_in.Goals as goal
+use Rattle.roster.proofs.Shared.{told_here, told_past}
 
 pub returns-then-place-len-clause-answer : goal.returns-then-place-len-clause-answer
 returns-then-place-len-clause-answer c = told_past c.args.place (λ s. reported c.args.run s c.args.session c.args.number) (Ok false) c.args.entries.now.items (omega (arith, c.len.ensures))

@@ -3,9 +3,10 @@ use Rattle.quantity.specs.Rows.{amount}
 use Rattle.drf_pick.specs.Shares.{Tally}
 use Rattle.drf_pick.specs.Allocations.{Client}
 use Rattle.drf_pick.specs.Shown.{TallyShows, counted_of}
-use Rattle.drf_pick.proofs.Counting.{role_keeps, where_ok}
+use Rattle.drf_pick.proofs.Counting.{role_keeps}
 use Rattle.drf_pick.proofs.Registering.{none_held, once_with, tally_with}
 use Rattle.drf_pick.proofs.counted.CountedShares.register.Goals as goal
+use Rattle.names_core.proofs.Options.{where_ok}
 
 pub returns-clause-counted : goal.returns-clause-counted
 returns-clause-counted c =

@@ -5,12 +5,12 @@ use Rattle.drf_shares.specs.Sums.{CanAdd}
 use Rattle.drf_pick.specs.RoleSums.{AreSums}
 use Rattle.drf_pick.specs.Shares.{AreUpTo, CanHold, Holder, HoldersOnce, RoleSum, Tally, all_held, given, given_holders, given_roles, given_to, holding, is_holder}
 use Rattle.drf_pick.proofs.ChangedShares.{given_registered}
-use Rattle.drf_pick.proofs.Counting.{where_ok}
 use Rattle.drf_pick.proofs.Once.{once_changed}
 use Rattle.drf_pick.proofs.Places.{found_at, none_at}
 use Rattle.drf_pick.proofs.RoleSums.{both_ok, either_both, given_sums}
 use Rattle.drf_pick.proofs.UpTo.{changed_up_to}
 use Rattle.drf_pick.proofs.holdings.Holdings.give.Goals as goal
+use Rattle.names_core.proofs.Options.{where_ok}
 
 pub give_first-requires-clause-new : goal.give_first-requires-clause-new
 give_first-requires-clause-new c =

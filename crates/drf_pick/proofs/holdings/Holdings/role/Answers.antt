@@ -4,8 +4,9 @@ use Rattle.drf_pick.specs.Shares.{AreUpTo, Holder, HoldersOnce, holder_of, is_ho
 use Rattle.drf_pick.specs.RoleSums.{AreSums}
 use Rattle.drf_pick.specs.Shown.{HoldSums}
 use Rattle.drf_pick.proofs.RoleSums.{pushed_sums, role_sums}
-use Rattle.drf_pick.proofs.Once.{none_left, once_push}
+use Rattle.drf_pick.proofs.Once.{once_push}
 use Rattle.drf_pick.proofs.holdings.Holdings.role.Goals as goal
+use Rattle.names_core.proofs.Options.{none_from}
 
 pub invariant_of-self-2 : goal.invariant_of-self-2
 invariant_of-self-2 c =
@@ -13,7 +14,7 @@ invariant_of-self-2 c =
     let hs = s.holders.items in
     let name = c.args.role.now in
     let is = sym c.in_ok-add_holder.ensures.holders in
-    let none : find (is_holder c.args.framework) hs ≡ None = ap (find (is_holder c.args.framework)) (sym c.deref.ensures.value) ∙ none_left _ (sym c.is_known.ensures ∙ c.if-is_known.false) in (
+    let none : find (is_holder c.args.framework) hs ≡ None = ap (find (is_holder c.args.framework)) (sym c.deref.ensures.value) ∙ none_from _ (sym c.is_known.ensures ∙ c.if-is_known.false) in (
       subst (AreUpTo (Some c.later.result)) is (c.later.ensures hs name [] c.self.invariant.0),
       subst HoldersOnce is (once_push hs (holder_of c.args.framework name) c.self.invariant.1 none),
       subst (λ (ks : List Holder). AreSums ks c.add_holder.new.roles) is (subst (AreSums (hs ++ holder_of c.args.framework name ∷ [])) (sym c.in_ok-add_holder.ensures.roles) (pushed_sums c.args.framework name hs s.roles c.self.invariant.2)),

@@ -3,9 +3,9 @@ use Rattle.quantity.specs.declared.rows.Row.{Row}
 use Rattle.drf_pick.specs.Shares.{is_role, role_sum_with}
 use Rattle.std.specs.List.{position}
 use Rattle.drf_pick.proofs.FoundRoles.{at_next}
-use Rattle.drf_pick.proofs.Shown.{name_itself}
 use Rattle.drf_pick.proofs.Places.{found_at, none_at}
 use Rattle.drf_pick.proofs.roles.Roles.add.Goals as goal
+use Rattle.names_core.proofs.Lists.{bytes_eq-refl}
 
 pub returns-in-Some-clause-ok : goal.returns-in-Some-clause-ok
 returns-in-Some-clause-ok c =
@@ -26,4 +26,4 @@ returns-clause-place c =
     let rs = c.args.self.now in
     let none = none_at (is_role role) rs (sym c.place.ensures ∙ c.in_default.is) in
     let count : c.len-count.result ≡ length rs = omega (arith, c.len-count.ensures, c.self.inside.sums.ok.0, ap length c.self.view_is) in
-    ap (position (is_role role)) c.in_ok-push.ensures.ok ∙ at_next (is_role role) rs (role_sum_with role c.new.result) none (name_itself role) ∙ ap Some (sym count)
+    ap (position (is_role role)) c.in_ok-push.ensures.ok ∙ at_next (is_role role) rs (role_sum_with role c.new.result) none (bytes_eq-refl role) ∙ ap Some (sym count)

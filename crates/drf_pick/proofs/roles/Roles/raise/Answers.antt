@@ -7,8 +7,9 @@ use Rattle.drf_pick.specs.Least.{role_share}
 use Rattle.drf_pick.specs.Shares.{RoleSum, at_first, is_role, role_holding, role_sum_of, role_sum_with, roles_with}
 use Rattle.drf_pick.proofs.Places.{first_at, last_changed, none_at}
 use Rattle.drf_pick.proofs.FoundRoles.{IsTable, table_changed}
-use Rattle.drf_pick.proofs.Shown.{held_of, name_itself}
+use Rattle.drf_pick.proofs.Shown.{held_of}
 use Rattle.drf_pick.proofs.roles.Roles.raise.Goals as goal
+use Rattle.names_core.proofs.Lists.{bytes_eq-refl}
 
 pub plus_sum-requires : goal.plus_sum-requires
 plus_sum-requires c =
@@ -57,5 +58,5 @@ returns-clause-ok c =
     let held : c.in_ok-held-2.held ≡ plus_rows [] more = c.in_ok-held-2.ensures ∙ ap (λ (rows : List Row). plus_rows rows more) c.new.ensures in
     c.in_ok-push.ensures.ok
     ∙ ap (λ (rows : List Row). rs ++ role_sum_with role rows ∷ []) held
-    ∙ sym (last_changed (is_role role) (role_holding more) rs (role_sum_of role) none (name_itself role))
+    ∙ sym (last_changed (is_role role) (role_holding more) rs (role_sum_of role) none (bytes_eq-refl role))
     ∙ sym (ap (λ (o : Option RoleSum). at_first (is_role role) (role_holding more) (roles_with role rs o)) none)

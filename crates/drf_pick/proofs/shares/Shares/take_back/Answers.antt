@@ -2,10 +2,10 @@ use Rattle.std.proofs.Common.{◌++◌, sym, subst, ◌∙◌}
 use Rattle.drf_pick.specs.Shares.{Tally}
 use Rattle.drf_pick.specs.Allocations.{Allocation}
 use Rattle.drf_pick.specs.Shown.{TallyShows}
-use Rattle.drf_pick.proofs.Counting.{where_ok}
 use Rattle.drf_pick.proofs.Held.{memory_where}
 use Rattle.drf_pick.proofs.Less.{tally_less, tally_unregistered}
 use Rattle.drf_pick.proofs.shares.Shares.take_back.Goals as goal
+use Rattle.names_core.proofs.Options.{where_ok}
 
 pub returns-then-is_registered-clause-ok : goal.returns-then-is_registered-clause-ok
 returns-then-is_registered-clause-ok c =

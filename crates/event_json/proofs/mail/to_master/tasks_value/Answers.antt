@@ -2,9 +2,10 @@ use Rattle.std.proofs.Common.{ap, ◌∙◌}
 use Rattle.serde_json.specs.Data.{array}
 use Rattle.serde_json.specs.View.{items_of}
 use Rattle.serde_json.proofs.Views.{view-Array}
-use Rattle.event_json.proofs.RecordEach.{written_more, written_all}
+use Rattle.event_json.proofs.RecordEach.{written_more}
 use Rattle.event_json.specs.Mails.{booked_data}
 use Rattle.event_json.proofs.mail.to_master.tasks_value.Goals as goal
+use Rattle.event_json.proofs.Shared.{written_all}
 
 pub loop-task-preserved : goal.loop-task-preserved
 loop-task-preserved c =

@@ -3,8 +3,10 @@ use Rattle.serde_json.specs.Data.{Data, array, string}
 use Rattle.serde_json.specs.View.{items_of}
 use Rattle.serde_json.proofs.Views.{view-Array}
 use Rattle.names_core.specs.Ids.{Numbered, InRange, id_text}
-use Rattle.event_json.proofs.RecordEach.{all_more, written_more, written_all, all_of_take, view-String}
+use Rattle.event_json.proofs.RecordEach.{written_more, view-String}
 use Rattle.event_json.proofs.record.write.offers_value.Goals as goal
+use Rattle.event_json.proofs.Shared.{written_all}
+use Rattle.names_core.proofs.Lists.{all_more, all_of_take}
 
 abbrev written : Numbered → Data
 written offer = string (id_text 79 offer)

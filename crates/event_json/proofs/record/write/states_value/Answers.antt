@@ -5,8 +5,9 @@ use Rattle.serde_json.proofs.Views.{view-Array}
 use Rattle.names_core.specs.declared.state.TaskState.{TaskState}
 use Rattle.names_core.specs.declared.state.TaskState.TheVariants.{Staging}
 use Rattle.names_core.specs.States.{state_text}
-use Rattle.event_json.proofs.RecordEach.{written_more, written_all, view-String}
+use Rattle.event_json.proofs.RecordEach.{written_more, view-String}
 use Rattle.event_json.proofs.record.write.states_value.Goals as goal
+use Rattle.event_json.proofs.Shared.{written_all}
 
 abbrev written : TaskState → Data
 written state = string (state_text state)

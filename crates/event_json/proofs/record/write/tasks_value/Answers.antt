@@ -4,8 +4,10 @@ use Rattle.serde_json.specs.View.{items_of}
 use Rattle.serde_json.proofs.Views.{view-Array}
 use Rattle.event_json.specs.Texts.{task_data}
 use Rattle.event_json.specs.Written.{IsTask}
-use Rattle.event_json.proofs.RecordEach.{all_more, written_more, written_all, all_of_take}
+use Rattle.event_json.proofs.RecordEach.{written_more}
 use Rattle.event_json.proofs.record.write.tasks_value.Goals as goal
+use Rattle.event_json.proofs.Shared.{written_all}
+use Rattle.names_core.proofs.Lists.{all_more, all_of_take}
 
 pub loop-task-preserved : goal.loop-task-preserved
 loop-task-preserved c =

@@ -6,9 +6,7 @@ use Rattle.sqlite_catalog.specs.Listing.{IsSound}
 use Rattle.keep_tables.specs.Tables.{IsKnown}
 use Rattle.keep_store.proofs.OpenLemmas.{not_new, not_first, not_second, some_and}
 use Rattle.keep_store.proofs.open.Keeper+FileStore+FileFrom+S.open_from.Goals as goal
-
-then : {X Y : Type 0} (r : Result X Y) {P Q : X → Type 0} → IfOk r P → ((x : X) → P x → Q x) → IfOk r Q
-then r {P} {Q} h f = IfOk-weaker r P Q f h
+use Rattle.names_core.proofs.Options.{then}
 
 or_else : {X Y : Type 0} (r : Result X Y) {P Q : Y → Type 0} → IfErr r P → ((y : Y) → P y → Q y) → IfErr r Q
 or_else r {P} {Q} h f = IfErr-weaker r P Q f h

@@ -9,8 +9,9 @@ use Rattle.std.specs.Str.{IsUtf8}
 use Rattle.messages.specs.declared.record.RecordedTask.{RecordedTask}
 use Rattle.event_json.specs.Texts.{record_form}
 use Rattle.event_json.specs.Written.{IsDurable}
-use Rattle.keep_store.proofs.SaveLemmas.{record_kept, record_put, record_ready, keys_of, ok_both, on_both, written_durable, written_utf8}
+use Rattle.keep_store.proofs.SaveLemmas.{record_kept, record_put, record_ready, ok_both, on_both, written_durable, written_utf8}
 use Rattle.keep_store.proofs.saves.save.save_record.Goals as goal
+use Rattle.agent_core.proofs.Shared.{keys_of}
 
 on_then : {X E : Type 0} (r : Result X E) {B C : Type 0} → OnOk r B → (B → C) → OnOk r C
 on_then (Ok x) b f = f b

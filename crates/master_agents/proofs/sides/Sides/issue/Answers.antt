@@ -4,9 +4,10 @@ use Rattle.roster.specs.Places.{at_place, value_at}
 use Rattle.roster.specs.Sessions.{is_spent, issued_number, with_command}
 use Rattle.roster.specs.Faults.{IsIssueRefusal}
 use Rattle.master_agents.specs.Joined.{Fit, joined}
-use Rattle.master_agents.proofs.Joining.{either_way, if_err, if_ok, joined_roster, fit_roster, joined_told, on_ok}
+use Rattle.master_agents.proofs.Joining.{either_way, if_ok, joined_roster, fit_roster, joined_told, on_ok}
 use Rattle.master_agents.proofs.Changing.{command_joins, command_keeps}
 use Rattle.master_agents.proofs.sides.Sides.issue.Goals as goal
+use Rattle.names_core.proofs.Options.{if_err}
 
 pub invariant_of-self : goal.invariant_of-self
 invariant_of-self c =

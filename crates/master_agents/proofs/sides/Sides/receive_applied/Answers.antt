@@ -3,9 +3,10 @@ use Rattle.messages.specs.declared.mail.AgentMail.TheVariants.{Applied}
 use Rattle.cluster_model.specs.Mails.{in_session}
 use Rattle.cluster_model.specs.Sides.{received, new_side}
 use Rattle.roster.specs.Faults.{IsAppliedRefusal}
-use Rattle.master_agents.proofs.Joining.{if_err, on_ok}
+use Rattle.master_agents.proofs.Joining.{on_ok}
 use Rattle.master_agents.proofs.Looking.{named_at, told_named, unnamed}
 use Rattle.master_agents.proofs.sides.Sides.receive_applied.Goals as goal
+use Rattle.names_core.proofs.Options.{if_err}
 
 pub returns-in-None-clause-ok : goal.returns-in-None-clause-ok
 returns-in-None-clause-ok c run = unnamed c.args.name.now (λ s. received run s (Applied c.args.session c.args.count)) c.args.self.now (sym c.place_of.ensures ∙ c.in-None.is)

@@ -2,11 +2,12 @@ use Rattle.std.proofs.Common.{ap, ◌∙◌, arith}
 use Rattle.quantity.specs.Rows.{amount}
 use Rattle.drf_pick.specs.Allocations.{rows_to}
 use Rattle.drf_pick.specs.Shown.{all_found}
-use Rattle.drf_pick.proofs.Counting.{all_same, where_ok}
+use Rattle.drf_pick.proofs.Counting.{all_same}
 use Rattle.master_rounds.specs.Allocations.{allocations_of}
 use Rattle.master_rounds.proofs.Finding.{found_together}
 use Rattle.master_rounds.proofs.SameAmounts.{same_together}
 use Rattle.master_rounds.proofs.shares.fill.recount.Goals as goal
+use Rattle.names_core.proofs.Options.{where_ok}
 
 pub count-requires-clause-shown : goal.count-requires-clause-shown
 count-requires-clause-shown c = (c.requires.counted.0, c.in_ok-find_all.ensures.counted c.requires.counted.0 c.requires.counted.1)

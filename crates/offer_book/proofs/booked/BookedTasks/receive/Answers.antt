@@ -1,9 +1,9 @@
 use Rattle.std.proofs.Common.{sym, subst}
 use Rattle.cluster_model.specs.Sides.{received_update}
 use Rattle.offer_book.specs.Names.{IsIndex}
-use Rattle.offer_book.proofs.Changing.{received_job}
 use Rattle.offer_book.proofs.Indexing.{index_map}
 use Rattle.offer_book.proofs.booked.BookedTasks.receive.Goals as goal
+use Rattle.cluster_model.proofs.Chains.{received_job}
 
 pub invariant_of-self : goal.invariant_of-self
 invariant_of-self c =
