@@ -29,6 +29,8 @@ use Rattle.call_json.proofs.Judging.{Judges, judges_then, judges_last, text_judg
 use Rattle.call_json.proofs.ReadValues.{text_is, text_at, no_text, list_at, required_is, whole_is, whole_at}
 use Rattle.call_json.proofs.ReadResources.{scalars_are, scalars_at}
 use Rattle.call_json.proofs.ReadLaunches.{each_length, launches_are, few_is}
+use Rattle.call_json.specs.declared.reading.Reading.{Reading}
+use Rattle.call_json.specs.Lists.{listed}
 
 -- a text that has to be a word
 pub word_judged : {A : Type 0} (o : Option Data) (text word : List ℕ) (x : A) (e : Refusal) → text_of o ≡ Some text → Judges (cond (bytes_eq text word) (Ok x) (Err e)) (needs (IsText o word) e)
@@ -159,13 +161,13 @@ resources_judged o =
 
 -- ---- a task
 
-task_judged : (d : Data) → Judges (task_of d) (of_task d)
+task_judged : (reading : Reading) (d : Data) → Judges (task_of reading d) (of_task reading d)
 unfolding task_of
-task_judged d =
+task_judged reading d =
     let o = get (codes "name") d in
     let p = at (codes "task_id" ∷ codes "value" ∷ []) d in
     let q = at (codes "agent_id" ∷ codes "value" ∷ []) d in
-    let r = get (codes "resources") d in
+    let r = listed reading (get (codes "resources") d) in
     judges_then (required members.TaskLabel (text_of o)) _ (needs_text members.TaskLabel o)
     (needs_read members.TaskId plain_name p & (needs_read members.TaskAgent plain_name q & of_resources r)) (text_judged members.TaskLabel o)
     (λ label is. judges_then (needed members.TaskId plain_name (text_of p)) _ (needs_read members.TaskId plain_name p) (needs_read members.TaskAgent plain_name q & of_resources r)
@@ -174,58 +176,58 @@ task_judged d =
     (needed_judged members.TaskAgent plain_name q)
     (λ agent agent_is. judges_last (resources_of r) (λ rows. record { name = name; agent = agent; resources = rows }) (of_resources r) (resources_judged r))))
 
-add_task_judged : (tasks : List TaskInfo) (d : Data) → Judges (add_task tasks d) (of_task d)
+add_task_judged : (reading : Reading) (tasks : List TaskInfo) (d : Data) → Judges (add_task reading tasks d) (of_task reading d)
 unfolding add_task
-add_task_judged tasks d = judges_last (task_of d) (λ task. tasks ++ task ∷ []) (of_task d) (task_judged d)
+add_task_judged reading tasks d = judges_last (task_of reading d) (λ task. tasks ++ task ∷ []) (of_task reading d) (task_judged reading d)
 
 -- ---- an operation
 
 -- LAUNCHes list as many tasks as they are
-listed_length : (ds : List Data) (groups : List (List TaskInfo)) → EachIs IsLaunch ds groups → length (listed_by ds) ≡ length (flat_map (λ group. group) groups)
-listed_length [] [] are = refl
-listed_length [] (g ∷ groups) are = absurd are
-listed_length (d ∷ ds) [] are = absurd are
-listed_length (d ∷ ds) (g ∷ groups) are =
-    let here : length (elements (infos_at d)) ≡ length g =
-    ap length (elements_are (infos_at d) are.0.infos (list_at (infos_at d) are.0.infos are.0.list)) ∙ each_length IsTask are.0.infos g are.0.each in
-    omega (arith, here, listed_length ds groups are.1, length-append (elements (infos_at d)) (listed_by ds), length-append g (flat_map (λ group. group) groups))
+listed_length : (reading : Reading) (ds : List Data) (groups : List (List TaskInfo)) → EachIs (IsLaunch reading) ds groups → length (listed_by reading ds) ≡ length (flat_map (λ group. group) groups)
+listed_length reading [] [] are = refl
+listed_length reading [] (g ∷ groups) are = absurd are
+listed_length reading (d ∷ ds) [] are = absurd are
+listed_length reading (d ∷ ds) (g ∷ groups) are =
+    let here : length (elements (infos_at reading d)) ≡ length g =
+    ap length (elements_are (infos_at reading d) are.0.infos (list_at (infos_at reading d) are.0.infos are.0.list)) ∙ each_length (IsTask reading) are.0.infos g are.0.each in
+    omega (arith, here, listed_length reading ds groups are.1, length-append (elements (infos_at reading d)) (listed_by reading ds), length-append g (flat_map (λ group. group) groups))
 
-listed-append : (before : List Data) (d : Data) → length (listed_by (before ++ d ∷ [])) ≡ length (listed_by before) + length (elements (infos_at d))
-listed-append [] d = omega (arith, length-append (elements (infos_at d)) [])
-listed-append (b ∷ before) d =
-    omega (arith, listed-append before d, length-append (elements (infos_at b)) (listed_by (before ++ d ∷ [])), length-append (elements (infos_at b)) (listed_by before))
+listed-append : (reading : Reading) (before : List Data) (d : Data) → length (listed_by reading (before ++ d ∷ [])) ≡ length (listed_by reading before) + length (elements (infos_at reading d))
+listed-append reading [] d = omega (arith, length-append (elements (infos_at reading d)) [])
+listed-append reading (b ∷ before) d =
+    omega (arith, listed-append reading before d, length-append (elements (infos_at reading b)) (listed_by reading (before ++ d ∷ [])), length-append (elements (infos_at reading b)) (listed_by reading before))
 
-tasks_before : (before : List Data) (tasks : List TaskInfo) → each_in add_operation [] before ≡ Ok tasks → length (listed_by before) ≡ length tasks
-tasks_before before tasks so_far =
-    let are = launches_are before tasks so_far in
-    listed_length before are.groups are.each ∙ ap length (sym are.joined)
+tasks_before : (reading : Reading) (before : List Data) (tasks : List TaskInfo) → each_in (add_operation reading) [] before ≡ Ok tasks → length (listed_by reading before) ≡ length tasks
+tasks_before reading before tasks so_far =
+    let are = launches_are reading before tasks so_far in
+    listed_length reading before are.groups are.each ∙ ap length (sym are.joined)
 
-few_judged : (before : List Data) (tasks : List TaskInfo) (d : Data) (ds : List Data) → each_in add_operation [] before ≡ Ok tasks → elements (infos_at d) ≡ ds
-    → Judges (still_few tasks ds) (needs (length (listed_by (before ++ d ∷ [])) ≤ 256) LimitExceeded)
-few_judged before tasks d ds so_far here = by_test (nat_lt tasks_limit (length tasks + length ds)) refl
+few_judged : (reading : Reading) (before : List Data) (tasks : List TaskInfo) (d : Data) (ds : List Data) → each_in (add_operation reading) [] before ≡ Ok tasks → elements (infos_at reading d) ≡ ds
+    → Judges (still_few tasks ds) (needs (length (listed_by reading (before ++ d ∷ [])) ≤ 256) LimitExceeded)
+few_judged reading before tasks d ds so_far here = by_test (nat_lt tasks_limit (length tasks + length ds)) refl
   where
-    count : length (listed_by (before ++ d ∷ [])) ≡ length tasks + length ds
-    count = omega (arith, listed-append before d, tasks_before before tasks so_far, ap length here)
+    count : length (listed_by reading (before ++ d ∷ [])) ≡ length tasks + length ds
+    count = omega (arith, listed-append reading before d, tasks_before reading before tasks so_far, ap length here)
 
-    by_test : (t : Bool) → nat_lt tasks_limit (length tasks + length ds) ≡ t → Judges (cond t (Err LimitExceeded) (Ok ds)) (needs (length (listed_by (before ++ d ∷ [])) ≤ 256) LimitExceeded)
+    by_test : (t : Bool) → nat_lt tasks_limit (length tasks + length ds) ≡ t → Judges (cond t (Err LimitExceeded) (Ok ds)) (needs (length (listed_by reading (before ++ d ∷ [])) ≤ 256) LimitExceeded)
     by_test true over = inl ((λ le. let no : ⊥ = grind (arith, nat_tests, count) in no), refl)
     by_test false within = (grind (arith, nat_tests, count), tt)
 
-operation_judged : (before : List Data) (tasks : List TaskInfo) (d : Data) → each_in add_operation [] before ≡ Ok tasks → Judges (add_operation tasks d) (of_operation before d)
+operation_judged : (reading : Reading) (before : List Data) (tasks : List TaskInfo) (d : Data) → each_in (add_operation reading) [] before ≡ Ok tasks → Judges (add_operation reading tasks d) (of_operation reading before d)
 unfolding add_operation
-operation_judged before tasks d so_far =
+operation_judged reading before tasks d so_far =
     let o = get (codes "type") d in
-    let few = needs (length (listed_by (before ++ d ∷ [])) ≤ 256) LimitExceeded in
-    let each = of_each of_task (elements (infos_at d)) in
+    let few = needs (length (listed_by reading (before ++ d ∷ [])) ≤ 256) LimitExceeded in
+    let each = of_each (of_task reading) (elements (infos_at reading d)) in
     judges_then (required members.OperationType (text_of o)) _ (needs_text members.OperationType o)
-    (needs (IsText o (codes "LAUNCH")) UnknownType & (needs_list members.Tasks (infos_at d) & (few & each))) (text_judged members.OperationType o)
-    (λ kind is. judges_then (only_launch kind) _ (needs (IsText o (codes "LAUNCH")) UnknownType) (needs_list members.Tasks (infos_at d) & (few & each))
+    (needs (IsText o (codes "LAUNCH")) UnknownType & (needs_list members.Tasks (infos_at reading d) & (few & each))) (text_judged members.OperationType o)
+    (λ kind is. judges_then (only_launch kind) _ (needs (IsText o (codes "LAUNCH")) UnknownType) (needs_list members.Tasks (infos_at reading d) & (few & each))
     (word_judged o kind (codes "LAUNCH") kind UnknownType (required_is members.OperationType (text_of o) kind is))
-    (λ launch is_launch. judges_then (required members.Tasks (list_of (infos_at d))) _ (needs_list members.Tasks (infos_at d)) (few & each) (list_judged members.Tasks (infos_at d))
-    (λ ds list. let here = elements_are (infos_at d) ds (required_is members.Tasks (list_of (infos_at d)) ds list) in
-    judges_then (still_few tasks ds) (each_in add_task tasks) few each (few_judged before tasks d ds so_far here)
-    (λ same is_few. subst (λ (es : List Data). Judges (each_in add_task tasks same) (of_each of_task es)) (sym (here ∙ (few_is tasks ds same is_few).0))
-    (each_judged add_task of_task add_task_judged tasks same)))))
+    (λ launch is_launch. judges_then (required members.Tasks (list_of (infos_at reading d))) _ (needs_list members.Tasks (infos_at reading d)) (few & each) (list_judged members.Tasks (infos_at reading d))
+    (λ ds list. let here = elements_are (infos_at reading d) ds (required_is members.Tasks (list_of (infos_at reading d)) ds list) in
+    judges_then (still_few tasks ds) (each_in (add_task reading) tasks) few each (few_judged reading before tasks d ds so_far here)
+    (λ same is_few. subst (λ (es : List Data). Judges (each_in (add_task reading) tasks same) (of_each (of_task reading) es)) (sym (here ∙ (few_is tasks ds same is_few).0))
+    (each_judged (add_task reading) (of_task reading) (add_task_judged reading) tasks same)))))
 
-pub operations_judged : (o : Option Data) → Judges (tasks_of o) (of_each_behind of_operation [] (elements o))
-operations_judged o = behind_judged add_operation of_operation [] operation_judged [] [] (elements o) refl
+pub operations_judged : (reading : Reading) (o : Option Data) → Judges (tasks_of reading o) (of_each_behind (of_operation reading) [] (elements o))
+operations_judged reading o = behind_judged (add_operation reading) (of_operation reading) [] (operation_judged reading) [] [] (elements o) refl

@@ -29,6 +29,8 @@ use Rattle.call_json.proofs.Judging.{Judges, met_then, judges_then, judges_last,
 use Rattle.call_json.proofs.JudgedLaunches.{operations_judged}
 use Rattle.call_json.proofs.ReadValues.{text_at, required_is, optional_is}
 use Rattle.call_json.proofs.ReadSubscribe.{same_id, id_itself, info_is}
+use Rattle.call_json.specs.declared.reading.Reading.{Reading}
+use Rattle.call_json.specs.Lists.{listed}
 
 -- ---- the framework alone
 
@@ -156,22 +158,22 @@ offers_judged member o =
     (λ ds is. subst (λ (es : List Data). Judges (each_in (add_offer member) [] ds) (of_each each es)) (sym (short_elements member 256 o ds is))
     (each_judged (add_offer member) each (add_offer_judged member) [] ds))
 
-pub accept_judged : (d : Data) → Judges (accept_of d) (of_accept d)
+pub accept_judged : (reading : Reading) (d : Data) → Judges (accept_of reading d) (of_accept reading d)
 unfolding accept_of
-accept_judged d =
-    let o = at (codes "accept" ∷ codes "offer_ids" ∷ []) d in
-    let p = at (codes "accept" ∷ codes "operations" ∷ []) d in
-    let later = of_each_behind of_operation [] (elements p) in
+accept_judged reading d =
+    let o = listed reading (at (codes "accept" ∷ codes "offer_ids" ∷ []) d) in
+    let p = listed reading (at (codes "accept" ∷ codes "operations" ∷ []) d) in
+    let later = of_each_behind (of_operation reading) [] (elements p) in
     judges_then (framework_of d) _ (of_framework d) (of_offers members.AcceptedOffers o & later) (framework_judged d)
     (λ framework is. judges_then (offers_of members.AcceptedOffers o) _ (of_offers members.AcceptedOffers o) later (offers_judged members.AcceptedOffers o)
-    (λ offers are. judges_last (tasks_of p) (λ tasks. Accept framework offers tasks (refused_for (get (codes "accept") d))) later (operations_judged p)))
+    (λ offers are. judges_last (tasks_of reading p) (λ tasks. Accept framework offers tasks (refused_for reading (get (codes "accept") d))) later (operations_judged reading p)))
 
-pub decline_judged : (d : Data) → Judges (decline_of d) (of_decline d)
+pub decline_judged : (reading : Reading) (d : Data) → Judges (decline_of reading d) (of_decline reading d)
 unfolding decline_of
-decline_judged d =
-    let o = at (codes "decline" ∷ codes "offer_ids" ∷ []) d in
+decline_judged reading d =
+    let o = listed reading (at (codes "decline" ∷ codes "offer_ids" ∷ []) d) in
     judges_then (framework_of d) _ (of_framework d) (of_offers members.DeclinedOffers o) (framework_judged d)
-    (λ framework is. judges_last (offers_of members.DeclinedOffers o) (λ offers. Decline framework offers (refused_for (get (codes "decline") d))) (of_offers members.DeclinedOffers o)
+    (λ framework is. judges_last (offers_of members.DeclinedOffers o) (λ offers. Decline framework offers (refused_for reading (get (codes "decline") d))) (of_offers members.DeclinedOffers o)
     (offers_judged members.DeclinedOffers o))
 
 -- ---- tasks
@@ -208,10 +210,10 @@ add_query_judged queries d =
     judges_then (needed members.ReconciledTask plain_name (text_of o)) _ (needs_read members.ReconciledTask plain_name o) (may_read plain_name p) (needed_judged members.ReconciledTask plain_name o)
     (λ name named. judges_last (optional plain_name (text_of p)) (λ agent. queries ++ record { name = name; agent = agent } ∷ []) (may_read plain_name p) (optional_judged plain_name p))
 
-pub reconcile_judged : (d : Data) → Judges (reconcile_of d) (of_reconcile d)
+pub reconcile_judged : (reading : Reading) (d : Data) → Judges (reconcile_of reading d) (of_reconcile reading d)
 unfolding reconcile_of
-reconcile_judged d =
-    let o = at (codes "reconcile" ∷ codes "tasks" ∷ []) d in
+reconcile_judged reading d =
+    let o = listed reading (at (codes "reconcile" ∷ codes "tasks" ∷ []) d) in
     let list = needs_short_list members.ReconciledTasks 1024 o in
     judges_then (framework_of d) _ (of_framework d) (list & of_each of_query (elements o)) (framework_judged d)
     (λ framework is. judges_then (short_list_of members.ReconciledTasks 1024 o) _ list (of_each of_query (elements o)) (short_list_judged members.ReconciledTasks 1024 o)

@@ -3,6 +3,8 @@ pub mod JudgedCalls
 pub mod JudgedLaunches
 pub mod JudgedMembers
 pub mod Judging
+pub mod Shifting
+pub mod Readings
 pub mod ReadCalls
 pub mod ReadLaunches
 pub mod ReadLists
@@ -11,6 +13,7 @@ pub mod ReadResources
 pub mod ReadSubscribe
 pub mod ReadValues
 pub mod Sums
+pub mod Counting
 pub mod Cutting
 pub mod Pointless
 pub mod Trimming

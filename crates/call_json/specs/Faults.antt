@@ -2,7 +2,7 @@
 use Rattle.std.specs.Prelude.{◌≡◌, ◌⊎◌, ℕ, ◌≤◌, List, [], ◌∷◌, ◌++◌, codes, flat_map, length, Option, None, Some, option_and_then}
 use Rattle.serde_json.specs.Data.{Data, Num, number, depth}
 use Rattle.serde_json.specs.Read.{max_depth}
-use Rattle.call_json.specs.Trim.{trim}
+use Rattle.call_json.specs.Spelling.{spelled}
 use Rattle.names_core.specs.Ids.{Numbered}
 use Rattle.names_core.specs.Updates.{update_of}
 use Rattle.quantity.specs.declared.rows.Row.{Row}
@@ -22,6 +22,8 @@ use Rattle.call_json.specs.IsCall.{type_text, IsJson}
 use Rattle.call_json.specs.Launches.{IsUnreserved, AreScalars}
 use Rattle.call_json.specs.Members.{in_info}
 use Rattle.call_json.specs.Values.{at, IsObject, IsText, HasText, IsRead, IsWhole}
+use Rattle.call_json.specs.declared.reading.Reading.{Reading}
+use Rattle.call_json.specs.Lists.{listed}
 
 -- ---- what a call's task asks for
 
@@ -50,29 +52,29 @@ abbrev pub of_resources : Option Data → Demands
 of_resources o =
     needs_list members.Resources o & of_each_behind of_resource [] (elements o)
 
-abbrev pub of_task : Data → Demands
-of_task d =
+abbrev pub of_task : Reading → Data → Demands
+of_task reading d =
     needs_text members.TaskLabel (at (codes "name" ∷ []) d)
     & needs_read members.TaskId plain_name (at (codes "task_id" ∷ codes "value" ∷ []) d)
     & needs_read members.TaskAgent plain_name (at (codes "agent_id" ∷ codes "value" ∷ []) d)
-    & of_resources (at (codes "resources" ∷ []) d)
+    & of_resources (listed reading (at (codes "resources" ∷ []) d))
 
 -- the list of tasks of an operation
-abbrev pub infos_at : Data → Option Data
-infos_at d = at (codes "launch" ∷ codes "task_infos" ∷ []) d
+abbrev pub infos_at : Reading → Data → Option Data
+infos_at reading d = listed reading (at (codes "launch" ∷ codes "task_infos" ∷ []) d)
 
 -- the tasks that operations list
-abbrev pub listed_by : List Data → List Data
-listed_by ds = flat_map (λ d. elements (infos_at d)) ds
+abbrev pub listed_by : Reading → List Data → List Data
+listed_by reading ds = flat_map (λ d. elements (infos_at reading d)) ds
 
 -- of an operation behind others
-abbrev pub of_operation : List Data → Data → Demands
-of_operation before d =
+abbrev pub of_operation : Reading → List Data → Data → Demands
+of_operation reading before d =
     needs_text members.OperationType (at (codes "type" ∷ []) d)
     & needs (IsText (at (codes "type" ∷ []) d) (codes "LAUNCH")) UnknownType
-    & needs_list members.Tasks (infos_at d)
-    & needs (length (listed_by (before ++ d ∷ [])) ≤ 256) LimitExceeded
-    & of_each of_task (elements (infos_at d))
+    & needs_list members.Tasks (infos_at reading d)
+    & needs (length (listed_by reading (before ++ d ∷ [])) ≤ 256) LimitExceeded
+    & of_each (of_task reading) (elements (infos_at reading d))
 
 -- ---- the members of a call
 
@@ -109,17 +111,17 @@ of_offers member o =
     needs_short_list member 256 o
     & of_each (λ d. needs_read member offer_id (at (codes "value" ∷ []) d)) (elements o)
 
-abbrev pub of_accept : Data → Demands
-of_accept d =
+abbrev pub of_accept : Reading → Data → Demands
+of_accept reading d =
     of_framework d
-    & of_offers members.AcceptedOffers (at (codes "accept" ∷ codes "offer_ids" ∷ []) d)
-    & of_each_behind of_operation []
-    (elements (at (codes "accept" ∷ codes "operations" ∷ []) d))
+    & of_offers members.AcceptedOffers (listed reading (at (codes "accept" ∷ codes "offer_ids" ∷ []) d))
+    & of_each_behind (of_operation reading) []
+    (elements (listed reading (at (codes "accept" ∷ codes "operations" ∷ []) d)))
 
-abbrev pub of_decline : Data → Demands
-of_decline d =
+abbrev pub of_decline : Reading → Data → Demands
+of_decline reading d =
     of_framework d
-    & of_offers members.DeclinedOffers (at (codes "decline" ∷ codes "offer_ids" ∷ []) d)
+    & of_offers members.DeclinedOffers (listed reading (at (codes "decline" ∷ codes "offer_ids" ∷ []) d))
 
 abbrev pub of_kill : Data → Demands
 of_kill d =
@@ -145,24 +147,24 @@ of_query d =
     (at (codes "task_id" ∷ codes "value" ∷ []) d)
     & may_read plain_name (at (codes "agent_id" ∷ codes "value" ∷ []) d)
 
-abbrev pub of_reconcile : Data → Demands
-of_reconcile d =
+abbrev pub of_reconcile : Reading → Data → Demands
+of_reconcile reading d =
     of_framework d
     & needs_short_list members.ReconciledTasks 1024
-    (at (codes "reconcile" ∷ codes "tasks" ∷ []) d)
-    & of_each of_query (elements (at (codes "reconcile" ∷ codes "tasks" ∷ []) d))
+    (listed reading (at (codes "reconcile" ∷ codes "tasks" ∷ []) d))
+    & of_each of_query (elements (listed reading (at (codes "reconcile" ∷ codes "tasks" ∷ []) d)))
 
-abbrev pub of_kind : Option Kind → Data → Demands
-of_kind None d = nothing
-of_kind (Some Subscribe) d = of_subscribe d
-of_kind (Some Teardown) d = of_framework d
-of_kind (Some Accept) d = of_accept d
-of_kind (Some Decline) d = of_decline d
-of_kind (Some Revive) d = of_framework d
-of_kind (Some Suppress) d = of_framework d
-of_kind (Some Kill) d = of_kill d
-of_kind (Some Acknowledge) d = of_acknowledge d
-of_kind (Some Reconcile) d = of_reconcile d
+abbrev pub of_kind : Reading → Option Kind → Data → Demands
+of_kind reading None d = nothing
+of_kind reading (Some Subscribe) d = of_subscribe d
+of_kind reading (Some Teardown) d = of_framework d
+of_kind reading (Some Accept) d = of_accept reading d
+of_kind reading (Some Decline) d = of_decline reading d
+of_kind reading (Some Revive) d = of_framework d
+of_kind reading (Some Suppress) d = of_framework d
+of_kind reading (Some Kill) d = of_kill d
+of_kind reading (Some Acknowledge) d = of_acknowledge d
+of_kind reading (Some Reconcile) d = of_reconcile reading d
 
 -- ---- a call
 
@@ -171,20 +173,20 @@ abbrev pub HasKnownType : Data → Type 0
 HasKnownType d = (call : Call) × IsText (at (codes "type" ∷ []) d) (type_text call)
 
 -- what is demanded of a value that is to be a call
-unfoldable pub demands : Data → Demands
-demands d =
+unfoldable pub demands : Reading → Data → Demands
+demands reading d =
     needs (depth d ≤ max_depth) NotJson
     & needs (IsObject d) NotJson
     & needs (HasText (at (codes "type" ∷ []) d)) NoType
     & needs (HasKnownType d) UnknownType
-    & of_kind (option_and_then kind_of (text_of (at (codes "type" ∷ []) d))) d
+    & of_kind reading (option_and_then kind_of (text_of (at (codes "type" ∷ []) d))) d
 
 -- the refusal is that of the first demand which the value doesn't meet
-abbrev pub IsFirstFault : Data → Refusal → Type 0
-IsFirstFault d refusal = IsFirstOf (demands d) refusal
+abbrev pub IsFirstFault : Reading → Data → Refusal → Type 0
+IsFirstFault reading d refusal = IsFirstOf (demands reading d) refusal
 
 -- the same of a text, which is no JSON, or that of such a value
-abbrev pub IsFirstFaultOfText : List ℕ → Refusal → Type 0
-IsFirstFaultOfText text refusal =
-    (((d : Data) → ¬ (IsJson (trim text) d)) × (refusal ≡ NotJson))
-    ⊎ ((d : Data) × IsJson (trim text) d × IsFirstFault d refusal)
+abbrev pub IsFirstFaultOfText : Reading → List ℕ → Refusal → Type 0
+IsFirstFaultOfText reading text refusal =
+    (((d : Data) → ¬ (IsJson (spelled reading text) d)) × (refusal ≡ NotJson))
+    ⊎ ((d : Data) × IsJson (spelled reading text) d × IsFirstFault reading d refusal)

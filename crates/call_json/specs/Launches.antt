@@ -7,6 +7,8 @@ use Rattle.messages.specs.declared.call.TaskInfo.{TaskInfo}
 use Rattle.call_json.specs.Ids.{plain_name}
 use Rattle.call_json.specs.Resources.{resource_name}
 use Rattle.call_json.specs.Values.{at, IsText, HasText, IsRead, IsWhole, IsList, HasList, EachIs}
+use Rattle.call_json.specs.declared.reading.Reading.{Reading}
+use Rattle.call_json.specs.Lists.{listed}
 
 -- reserved for no role but the default one
 abbrev pub IsUnreserved : Data → Type 0
@@ -31,27 +33,27 @@ abbrev pub AreResources : Option Data → List Row → Type 0
 AreResources o rows = (ds : List Data) × IsList o ds × AreScalars ds rows
 
 -- an object that is this task; a text `name` has to be there, and isn't kept
-pub record IsTask (d : Data) (task : TaskInfo) : Type 0 where
+pub record IsTask (reading : Reading) (d : Data) (task : TaskInfo) : Type 0 where
   pub label : HasText (at (codes "name" ∷ []) d)
   pub name : IsRead plain_name (at (codes "task_id" ∷ codes "value" ∷ []) d) task.name
   pub agent : IsRead plain_name (at (codes "agent_id" ∷ codes "value" ∷ []) d) task.agent
-  pub resources : AreResources (at (codes "resources" ∷ []) d) task.resources
+  pub resources : AreResources (listed reading (at (codes "resources" ∷ []) d)) task.resources
 
 -- a LAUNCH of these tasks
-pub record IsLaunch (d : Data) (tasks : List TaskInfo) : Type 0 where
+pub record IsLaunch (reading : Reading) (d : Data) (tasks : List TaskInfo) : Type 0 where
   pub type : IsText (at (codes "type" ∷ []) d) (codes "LAUNCH")
   pub infos : List Data
-  pub list : IsList (at (codes "launch" ∷ codes "task_infos" ∷ []) d) infos
-  pub each : EachIs IsTask infos tasks
+  pub list : IsList (listed reading (at (codes "launch" ∷ codes "task_infos" ∷ []) d)) infos
+  pub each : EachIs (IsTask reading) infos tasks
 
 -- LAUNCHes, which list these tasks together
-pub record AreLaunches (ds : List Data) (tasks : List TaskInfo) : Type 0 where
+pub record AreLaunches (reading : Reading) (ds : List Data) (tasks : List TaskInfo) : Type 0 where
   pub groups : List (List TaskInfo)
-  pub each : EachIs IsLaunch ds groups
+  pub each : EachIs (IsLaunch reading) ds groups
   pub joined : tasks ≡ flat_map (λ group. group) groups
   pub few : length tasks ≤ 256
 
 -- a list of LAUNCHes stands there, or no list and so no task
-abbrev pub AreLaunched : Option Data → List TaskInfo → Type 0
-AreLaunched o tasks =
-    ((ds : List Data) × IsList o ds × AreLaunches ds tasks) ⊎ (¬ (HasList o) × (tasks ≡ []))
+abbrev pub AreLaunched : Reading → Option Data → List TaskInfo → Type 0
+AreLaunched reading o tasks =
+    ((ds : List Data) × IsList o ds × AreLaunches reading ds tasks) ⊎ (¬ (HasList o) × (tasks ≡ []))

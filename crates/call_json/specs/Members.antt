@@ -1,6 +1,6 @@
 -- What the members of a value are where it is a call, by the call's type.
 use Rattle.std.specs.Prelude.{◌≡◌, ◌⊎◌, ℕ, List, [], ◌∷◌, codes, Option, None, Some, min}
-use Rattle.serde_json.specs.Data.{Data}
+use Rattle.serde_json.specs.Data.{Data, Num, number}
 use Rattle.names_core.specs.Ids.{Numbered}
 use Rattle.names_core.specs.Updates.{Update, update_of}
 use Rattle.messages.specs.declared.call.ReconciledTask.{ReconciledTask}
@@ -9,6 +9,10 @@ use Rattle.call_json.specs.Ids.{framework_id, offer_id, plain_name, role_name}
 use Rattle.call_json.specs.Subscribe.{chosen_role}
 use Rattle.call_json.specs.Launches.{AreLaunched}
 use Rattle.call_json.specs.Values.{at, HasText, IsRead, IsReadOrNot, IsWhole, IsList, HasList, IsShortList}
+use Rattle.call_json.specs.declared.reading.Reading.{Reading}
+use Rattle.call_json.specs.declared.reading.Reading.TheVariants.{Strict, Lenient}
+use Rattle.call_json.specs.Offers.{whole_part}
+use Rattle.call_json.specs.Lists.{listed}
 
 -- the framework that a call is of
 abbrev pub IsOf : Data → Numbered → Type 0
@@ -45,29 +49,34 @@ pub record IsSubscribe (d : Data) (framework : Option Numbered) (role : List ℕ
   pub listed_role_is : IsOneRole (in_info (codes "roles" ∷ []) d) listed_role
   pub role_is : role ≡ chosen_role listed_role plain_role
 
--- for how many seconds offers are refused: at most a year's, and 5 where no whole number is there
-abbrev pub IsSeconds : Option Data → ℕ → Type 0
-IsSeconds o seconds =
-    ((n : ℕ) × IsWhole o n × (seconds ≡ min 31536000 n))
-    ⊎ (((n : ℕ) → ¬ (IsWhole o n)) × (seconds ≡ 5))
+-- seconds stand there: strictly a whole number, leniently the whole part of any number
+abbrev pub IsCount : Reading → Option Data → ℕ → Type 0
+IsCount Strict o n = IsWhole o n
+IsCount Lenient o n = (x : Num) × (o ≡ Some (number x)) × (n ≡ whole_part x)
+
+-- for how many seconds offers are refused: at most a year's, and 5 where none stand there
+abbrev pub IsSeconds : Reading → Option Data → ℕ → Type 0
+IsSeconds reading o seconds =
+    ((n : ℕ) × IsCount reading o n × (seconds ≡ min 31536000 n))
+    ⊎ (((n : ℕ) → ¬ (IsCount reading o n)) × (seconds ≡ 5))
 
 -- an object that is the id of an offer
 abbrev pub IsOffer : Data → Numbered → Type 0
 IsOffer d offer = IsRead offer_id (at (codes "value" ∷ []) d) offer
 
-pub record IsAccept (d : Data) (framework : Numbered) (offers : List Numbered)
+pub record IsAccept (reading : Reading) (d : Data) (framework : Numbered) (offers : List Numbered)
     (tasks : List TaskInfo) (seconds : ℕ) : Type 0 where
   pub of : IsOf d framework
-  pub offers_are : IsShortList 256 IsOffer (at (codes "accept" ∷ codes "offer_ids" ∷ []) d) offers
-  pub tasks_are : AreLaunched (at (codes "accept" ∷ codes "operations" ∷ []) d) tasks
-  pub seconds_are : IsSeconds
+  pub offers_are : IsShortList 256 IsOffer (listed reading (at (codes "accept" ∷ codes "offer_ids" ∷ []) d)) offers
+  pub tasks_are : AreLaunched reading (listed reading (at (codes "accept" ∷ codes "operations" ∷ []) d)) tasks
+  pub seconds_are : IsSeconds reading
       (at (codes "accept" ∷ codes "filters" ∷ codes "refuse_seconds" ∷ []) d) seconds
 
-pub record IsDecline (d : Data) (framework : Numbered) (offers : List Numbered)
+pub record IsDecline (reading : Reading) (d : Data) (framework : Numbered) (offers : List Numbered)
     (seconds : ℕ) : Type 0 where
   pub of : IsOf d framework
-  pub offers_are : IsShortList 256 IsOffer (at (codes "decline" ∷ codes "offer_ids" ∷ []) d) offers
-  pub seconds_are : IsSeconds
+  pub offers_are : IsShortList 256 IsOffer (listed reading (at (codes "decline" ∷ codes "offer_ids" ∷ []) d)) offers
+  pub seconds_are : IsSeconds reading
       (at (codes "decline" ∷ codes "filters" ∷ codes "refuse_seconds" ∷ []) d) seconds
 
 pub record IsKill (d : Data) (framework : Numbered) (task : List ℕ)
@@ -92,7 +101,7 @@ pub record IsQuery (d : Data) (query : ReconciledTask) : Type 0 where
   pub name : IsRead plain_name (at (codes "task_id" ∷ codes "value" ∷ []) d) query.name
   pub agent : IsReadOrNot plain_name (at (codes "agent_id" ∷ codes "value" ∷ []) d) query.agent
 
-pub record IsReconcile (d : Data) (framework : Numbered)
+pub record IsReconcile (reading : Reading) (d : Data) (framework : Numbered)
     (tasks : List ReconciledTask) : Type 0 where
   pub of : IsOf d framework
-  pub tasks_are : IsShortList 1024 IsQuery (at (codes "reconcile" ∷ codes "tasks" ∷ []) d) tasks
+  pub tasks_are : IsShortList 1024 IsQuery (listed reading (at (codes "reconcile" ∷ codes "tasks" ∷ []) d)) tasks

@@ -12,6 +12,8 @@ use Rattle.call_json.specs.declared.members.fault.Refusal.{Refusal}
 use Rattle.messages.specs.declared.call.Call.{Call}
 use Rattle.messages.specs.declared.call.Call.TheVariants.{Kill, Acknowledge, Reconcile}
 use Rattle.messages.specs.declared.call.ReconciledTask.{ReconciledTask}
+use Rattle.call_json.specs.declared.reading.Reading.{Reading}
+use Rattle.call_json.specs.Lists.{listed}
 
 unfoldable pub kill_of : Data → Result Call Refusal
 kill_of d = do
@@ -39,10 +41,10 @@ add_query queries d = do
   Ok (queries ++ record { name = name; agent = agent } ∷ [])
 
 -- the tasks of a list of at most 1,024
-unfoldable pub reconcile_of : Data → Result Call Refusal
-reconcile_of d = do
+unfoldable pub reconcile_of : Reading → Data → Result Call Refusal
+reconcile_of reading d = do
   framework ← framework_of d
   list ← short_list_of members.ReconciledTasks 1024
-      (member_of (codes "tasks") (get (codes "reconcile") d))
+      (listed reading (member_of (codes "tasks") (get (codes "reconcile") d)))
   tasks ← each_in add_query [] list
   Ok (Reconcile framework tasks)

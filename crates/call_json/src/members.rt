@@ -10,6 +10,6 @@ pub use ids::{
     required_task, required_update,
 };
 pub use members::{
-    id_text, list, member, required_id_text, required_list, required_short_list, required_text,
-    text,
+    id_text, list, listed, member, required_id_text, required_list, required_short_list,
+    required_text, text,
 };

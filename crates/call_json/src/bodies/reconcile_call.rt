@@ -9,6 +9,7 @@ ghost use Rattle.call_json.specs.Tasks.{add_query, reconcile_of};
 use crate::members::{
     CallFault, Member, framework, member, optional_agent, required_short_list, required_task,
 };
+use crate::reading::Reading;
 use messages::{Call, ReconciledTask};
 use serde_json::Value;
 use std::alloc::Global;
@@ -44,12 +45,12 @@ fn all_queries(alloc: Global, values: &[Value]) -> Result<Vec<ReconciledTask>, C
 /// A RECONCILE: its framework, and the tasks whose states it asks for (1,024 at most);
 /// with none it asks for those of all.
 #[tactic(auto, unfolding(crate::specs::Tasks::reconcile_of))]
-pub fn reconcile(alloc: Global, call: &Value) -> Result<Call, CallFault>
-    ensures { Gives (λ c. c) result (reconcile_of (view call.now)) }
+pub fn reconcile(alloc: Global, reading: Reading, call: &Value) -> Result<Call, CallFault>
+    ensures { Gives (λ c. c) result (reconcile_of reading (view call.now)) }
 {
     let framework = framework(call)?;
     let list = member(call.get("reconcile"), "tasks");
-    let values = required_short_list(list, Member::ReconciledTasks, TASKS_LIMIT)?;
+    let values = required_short_list(reading, list, Member::ReconciledTasks, TASKS_LIMIT)?;
     let tasks = all_queries(alloc, values)?;
     Ok(Call::Reconcile {
         framework,

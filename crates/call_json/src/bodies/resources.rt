@@ -5,12 +5,13 @@ ghost use Rattle.serde_json.specs.View.{view};
 ghost use Rattle.call_json.specs.Answers.{Gives};
 ghost use Rattle.call_json.specs.MemberLookups.{seen, text_of};
 ghost use Rattle.call_json.specs.Ids.{needed};
-ghost use Rattle.call_json.specs.Lists.{each_in};
+ghost use Rattle.call_json.specs.Lists.{each_in, listed};
 ghost use Rattle.call_json.specs.declared.members.fault.Member.TheVariants as members;
 ghost use Rattle.call_json.specs.Resources.{resource_name, only_scalar, only_default, kind_of, amount_of, within_limits, add_resource, resources_of};
 ghost use Rattle.quantity.specs.Rows.{added};
 
 use crate::members::{CallFault, Member, Refusal, member, required_list, required_text, text};
+use crate::reading::Reading;
 use quantity::{QuantityFault, ResourceName, Resources};
 use serde_json::Value;
 use std::alloc::Global;
@@ -93,9 +94,13 @@ fn all_resources(alloc: Global, values: &[Value]) -> Result<Resources, CallFault
 
 /// The resources that a list asks for. Those of one name are added.
 #[tactic(auto, unfolding(crate::specs::Resources::resources_of))]
-pub fn resources(alloc: Global, value: Option<&Value>) -> Result<Resources, CallFault>
-    ensures { Gives (λ r. r) result (resources_of (seen value.entry)) }
+pub fn resources(
+    alloc: Global,
+    reading: Reading,
+    value: Option<&Value>,
+) -> Result<Resources, CallFault>
+    ensures { Gives (λ r. r) result (resources_of (listed reading (seen value.entry))) }
 {
-    let values = required_list(value, Member::Resources)?;
+    let values = required_list(reading, value, Member::Resources)?;
     all_resources(alloc, values)
 }

@@ -6,14 +6,14 @@ ghost use Rattle.std.specs.Char.{is_ascii_digit};
 ghost use Rattle.call_json.specs.Trim.{is_point, without_minus, is_whole, is_zeros, trimmed};
 
 /// The place of the first point, or the length.
-fn point_place(piece: &[u8]) -> usize
+pub fn point_place(piece: &[u8]) -> usize
     ensures place { result ≡ position_or_len is_point piece.now }
     ensures inside { result ≤ length piece.now }
 {
     piece.iter().take_while(|b| **b != b'.').count()
 }
 
-fn without_minus(number: &[u8]) -> &[u8]
+pub fn without_minus(number: &[u8]) -> &[u8]
     ensures { result.now ≡ without_minus number.now }
 {
     match number {
@@ -22,7 +22,7 @@ fn without_minus(number: &[u8]) -> &[u8]
     }
 }
 
-fn are_digits(text: &[u8]) -> bool
+pub fn are_digits(text: &[u8]) -> bool
     ensures { result ≡ list_all is_ascii_digit text.now }
 {
     text.iter().all(|b| b.is_ascii_digit())
@@ -35,7 +35,7 @@ fn is_whole(number: &[u8]) -> bool
     !digits.is_empty() && are_digits(digits)
 }
 
-fn are_nulls(text: &[u8]) -> bool
+pub fn are_nulls(text: &[u8]) -> bool
     ensures { result ≡ list_all (λ b. b == 48) text.now }
 {
     text.iter().all(|b| *b == b'0')

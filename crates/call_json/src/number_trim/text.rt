@@ -2,10 +2,14 @@
 
 ghost use Rattle.std.specs.Prelude.{◌≡◌, ◌<◌, ◌≤◌, ◌++◌, length, take, drop, nat_lt, IfOk, OnOk, IsOkAnd};
 ghost use Rattle.std.specs.Cow.{cow_slice_items, IsBorrowedSlice};
+ghost use Rattle.call_json.specs.Exponents.{write_out};
+ghost use Rattle.call_json.specs.Spelling.{spelled};
 ghost use Rattle.call_json.specs.Trim.{lacks_point, trimmed, trim, OneCut, AreCut};
 
 use crate::number_trim::number::trimmed;
 use crate::number_trim::piece::piece_end;
+use crate::number_trim::shifted::push_written_out;
+use crate::reading::Reading;
 use std::alloc::{AllocError, Global};
 use std::borrow::CowSlice;
 
@@ -74,6 +78,35 @@ pub fn trim(alloc: Global, text: &[u8]) -> Result<CowSlice<'_, u8>, AllocError>
     out.extend_from_slice(front)?;
     push_trimmed(&mut out, rest)?;
     Ok(CowSlice::Owned(out))
+}
+
+/// Adds a text with its whole numbers as such, those with an exponent too.
+fn write_out(alloc: Global, out: &mut Vec<u8>, text: &[u8]) -> Result<(), AllocError>
+    ensures { OnOk result (out.new.items ≡ out.old.items ++ write_out text.now) }
+{
+    let mut rest = text;
+    while !rest.is_empty() {
+        let (piece, after) = rest.split_at(piece_end(rest));
+        push_written_out(alloc, out, piece)?;
+        rest = after;
+    }
+    Ok(())
+}
+
+/// The text with its whole numbers as such: strictly those that are written with a point and zeros
+/// (see `trim`), leniently also those with an exponent whose value has at most 20 digits, as `1e+06`
+/// and `1.048576e+06`, by their digits. An exponent has at most nine digits itself.
+pub fn spelled(alloc: Global, reading: Reading, text: &[u8]) -> Result<CowSlice<'_, u8>, AllocError>
+    ensures { IfOk result (λ out. cow_slice_items out ≡ spelled reading text.now) }
+{
+    match reading {
+        Reading::Strict => trim(alloc, text),
+        Reading::Lenient => {
+            let mut out = Vec::with_capacity(alloc, text.len())?;
+            write_out(alloc, &mut out, text)?;
+            Ok(CowSlice::Owned(out))
+        }
+    }
 }
 
 /// A text is cut into strings, number tokens and single other bytes in one way:

@@ -5,4 +5,4 @@ use Rattle.call_json.specs.Launched.{add_operation}
 use Rattle.call_json.proofs.bodies.operations.all_tasks.Given as goal
 
 abbrev pub invariant-loop-value : goal.invariant-loop-value
-invariant-loop-value l = each_in add_operation l.tasks.items (map view (drop l.value-index l.values)) ≡ each_in add_operation [] (map view l.values)
+invariant-loop-value l = each_in (add_operation l.reading) l.tasks.items (map view (drop l.value-index l.values)) ≡ each_in (add_operation l.reading) [] (map view l.values)
