@@ -39,7 +39,8 @@ pub fn cause_due(
     ensures { Causes result (cause_due items.now name.now cause) }
 {
     match cause {
-        StepCause::Start(total) => Ok(Some(Cause::Start(total))),
+        StepCause::Start(None) => Ok(Some(Cause::Start(None))),
+        StepCause::Start(Some(total)) => Ok(Some(Cause::Start(Some(total.get().copy()?)))),
         StepCause::Again => Ok(Some(Cause::Again)),
         StepCause::Executor(key, state) => Ok(Some(Cause::Executor(key, state))),
         StepCause::Mail(number) => match item_at(items, number) {

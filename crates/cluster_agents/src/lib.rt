@@ -19,5 +19,5 @@ pub use laws::{commits_are_made, prepares_are_made, stops_are_made};
 pub use openings::{
     fresh_agents_open, fresh_records, good_opening, put_in_order, records_are_recorded,
 };
-pub use outcomes::{Outgoing, StepOutcome, ends_with, made_sending};
+pub use outcomes::{Outgoing, StepOutcome, ends_with, made_with};
 pub use prepares::{draw, is_withheld};

@@ -1,21 +1,19 @@
 //! How a step ends, and what it outputs.
 
 ghost use Rattle.std.specs.Prelude.{◌≡◌};
-ghost use Rattle.cluster_agents.specs.Moves.{sending};
 ghost use Rattle.cluster_agents.specs.Outcomes.{ends_with};
 ghost use Rattle.messages.specs.declared.steps.verdict.Verdict.TheVariants as verdicts;
 
 use agent_core::Record;
 use cluster_laws::Item;
-use messages::{Outputs, Sent, Verdict};
-use std::alloc::Global;
+use messages::{KeptOutputs, Sent, Verdict};
 use values::Listed;
 
 /// How a step ended and what it output: its entry, but for the step.
 #[derive(Drop)]
 pub struct StepOutcome {
     pub verdict: Verdict,
-    pub outputs: Outputs,
+    pub outputs: KeptOutputs,
     /// A copy of the record of the draft that the step opened.
     pub durable: Option<Record>,
 }
@@ -27,36 +25,24 @@ pub struct Outgoing {
     pub items: Listed<Item>,
 }
 
-/// The outputs of a step that only sends.
-pub fn sending(alloc: Global, sent: Listed<Sent>) -> Outputs
-    ensures { result ≡ sending sent }
-{
-    Outputs {
-        events: Listed::new(alloc),
-        closed: Listed::new(alloc),
-        sent,
-        taken: None,
-    }
-}
-
-/// A step that was taken and only sends.
-pub fn made_sending(alloc: Global, sent: Listed<Sent>) -> StepOutcome
-    ensures { result ≡ record { verdict = verdicts.Ok; outputs = sending sent; durable = None } }
+/// A step that was taken and has these outputs.
+pub fn made_with(outputs: KeptOutputs) -> StepOutcome
+    ensures { result ≡ record { verdict = verdicts.Ok; outputs = outputs; durable = None } }
 {
     StepOutcome {
         verdict: Verdict::Ok,
-        outputs: sending(alloc, sent),
+        outputs,
         durable: None,
     }
 }
 
 /// A step that ended in this way and has no outputs.
-pub fn ends_with(alloc: Global, verdict: Verdict) -> StepOutcome
+pub fn ends_with(verdict: Verdict) -> StepOutcome
     ensures { result ≡ ends_with verdict }
 {
     StepOutcome {
         verdict,
-        outputs: sending(alloc, Listed::new(alloc)),
+        outputs: KeptOutputs::nothing(),
         durable: None,
     }
 }

@@ -11,12 +11,12 @@ ghost use Rattle.cluster_model.specs.Agents.{next_of};
 ghost use Rattle.messages.specs.declared.steps.verdict.Verdict.TheVariants as verdicts;
 
 use crate::agents::ClusterAgent;
-use crate::outcomes::{StepOutcome, ends_with, sending};
+use crate::outcomes::{StepOutcome, ends_with};
 use agent_core::Record;
 use cluster_channels::Post;
-use messages::{Cause, StepCause, Verdict};
+use messages::{Cause, KeptOutputs, StepCause, Verdict};
 use std::alloc::{AllocError, Global};
-use values::{Listed, Plain};
+use values::Plain;
 
 /// A copy of the record of an agent's open draft.
 fn draft_record(agent: &ClusterAgent) -> Result<Option<Record>, AllocError>
@@ -29,13 +29,13 @@ fn draft_record(agent: &ClusterAgent) -> Result<Option<Record>, AllocError>
 }
 
 /// The agent runs out of memory, and is down over its record.
-fn run_out(agent: &mut ClusterAgent, alloc: Global) -> StepOutcome
+fn run_out(agent: &mut ClusterAgent) -> StepOutcome
     ensures agent { agent.new ≡ goes_down (comes_up_without agent.old) }
     ensures made { result ≡ ends_with verdicts.OutOfMemory }
 {
     agent.stop_before();
     agent.fall();
-    ends_with(alloc, Verdict::OutOfMemory)
+    ends_with(Verdict::OutOfMemory)
 }
 
 /// Opens a draft of a cause, and copies its record. An agent that runs out of memory is down.
@@ -51,13 +51,13 @@ pub fn draw(agent: &mut ClusterAgent, alloc: Global, cause: Cause) -> StepOutcom
         Ok(None) => match draft_record(agent) {
             Ok(durable) => StepOutcome {
                 verdict: Verdict::Ok,
-                outputs: sending(alloc, Listed::new(alloc)),
+                outputs: KeptOutputs::nothing(),
                 durable,
             },
-            Err(_) => run_out(agent, alloc),
+            Err(_) => run_out(agent),
         },
-        Ok(Some(refusal)) => ends_with(alloc, Verdict::AgentRefused(refusal)),
-        Err(_) => run_out(agent, alloc),
+        Ok(Some(refusal)) => ends_with(Verdict::AgentRefused(refusal)),
+        Err(_) => run_out(agent),
     }
 }
 

@@ -31,7 +31,7 @@ use cluster_channels::Post;
 use cluster_parts::{ClusterAgent, ClusterState, open_parts};
 use desk_core::KeptEntry;
 use master_agents::Config;
-use messages::{ClusterFault, Outputs, Step};
+use messages::{ClusterFault, KeptOutputs, Step};
 use names_core::{AgentName, Run};
 use quantity::Resources;
 use std::alloc::Global;
@@ -193,7 +193,7 @@ impl<P: Post + Drop> Cluster<P> {
     }
 
     /// The outputs of the opening: a Hello to every agent.
-    pub fn opened(&self) -> &Outputs
+    pub fn opened(&self) -> &KeptOutputs
         ensures { result.now
             ≡ (open_cluster self.now.story.setup self.now.story.records).outputs }
     {

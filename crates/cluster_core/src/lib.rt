@@ -20,7 +20,7 @@ pub use desk::RecordedCluster;
 pub use desk_core::KeptEntry;
 pub use fresh::open_fresh;
 pub use master_agents::{Config, ConfiguredAgents};
-pub use messages::{ClusterFault, Entry, Keep, Outputs, Sent, Step, StepCause, Verdict};
+pub use messages::{ClusterFault, Entry, Keep, KeptOutputs, Sent, Step, StepCause, Verdict};
 pub use names_core::Weights;
 pub use running::run;
 pub use taken::Taken;

@@ -2,7 +2,7 @@
 
 use agent_core::Record;
 use desk_core::KeptEntry;
-use messages::Outputs;
+use messages::KeptOutputs;
 use names_core::{Run, Weights};
 
 /// How a cluster was opened, and every entry since.
@@ -15,7 +15,7 @@ pub struct History {
     /// The agents' records at the opening.
     pub records: Vec<Record>,
     /// The outputs of the opening.
-    pub opened: Outputs,
+    pub opened: KeptOutputs,
     pub entries: Vec<KeptEntry>,
 }
 

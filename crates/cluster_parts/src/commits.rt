@@ -7,7 +7,7 @@ ghost use Rattle.messages.specs.declared.steps.step.Step.TheVariants.{Commit};
 
 use crate::parts::ClusterState;
 use crate::places::found_up;
-use cluster_agents::{StepOutcome, commits_are_made, draft_mails, made_sending};
+use cluster_agents::{StepOutcome, commits_are_made, draft_mails, made_with};
 use cluster_channels::Post;
 use messages::ClusterFault;
 use names_core::AgentName;
@@ -34,8 +34,8 @@ impl<P: Post> ClusterState<P> {
         let place = found_up(self.agents.as_slice(), name)?;
         let agent = &mut self.agents[place];
         let out = draft_mails(alloc, agent, name)?;
-        let sent = self.served.keep_sent(alloc, out)?;
+        let outputs = self.served.keep_sent(alloc, out)?;
         let _mails = agent.commit();
-        Ok(made_sending(alloc, sent))
+        Ok(made_with(outputs))
     }
 }

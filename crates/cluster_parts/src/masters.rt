@@ -1,18 +1,19 @@
 //! The master's outputs are stored and written in entries.
 
 ghost use Rattle.std.specs.Prelude.{◌≡◌, ◌+◌, ◌≤◌, ◌++◌, ◌∷◌, [], None, length, map, IfOk, OnOk, OnErr};
+ghost use Rattle.cluster_agents.specs.Moves.{sending};
 ghost use Rattle.cluster_agents.specs.Outcomes.{ends_with};
 ghost use Rattle.messages.specs.declared.steps.verdict.Verdict.TheVariants as verdicts;
-ghost use Rattle.cluster_parts.specs.Masters.{Settles, item_to, sent_to, made_of};
+ghost use Rattle.cluster_parts.specs.Masters.{Settles, item_to, sent_to, made_of, outputs_of_master};
 ghost use Rattle.cluster_parts.specs.Posts.{Grows};
 ghost use Rattle.cluster_laws.specs.Runs.{AreRising};
 ghost use Rattle.cluster_channels.specs.Streams.{received, kept_ids};
 
-use cluster_agents::{Items, Outgoing, StepOutcome, ends_with};
+use cluster_agents::{Items, Outgoing, StepOutcome, ends_with, made_with};
 use cluster_channels::{Post, Streams};
 use cluster_laws::Item;
 use master_core::{Master, MasterFault, Outs};
-use messages::{Outputs, Sent, StreamEvent, ToAgent, Verdict};
+use messages::{KeptOutputs, Sent, StreamEvent, ToAgent, Verdict};
 use names_core::StreamId;
 use std::alloc::{AllocError, Global};
 use values::{Listed, Plain, Shared};
@@ -103,8 +104,8 @@ impl<P: Post> MasterAndChannels<P> {
         &mut self,
         alloc: Global,
         out: Outgoing,
-    ) -> Result<Listed<Sent>, AllocError>
-        ensures sent { IfOk result (λ sent. sent ≡ out.sent) }
+    ) -> Result<KeptOutputs, AllocError>
+        ensures outputs { IfOk result (λ outputs. outputs ≡ sending out.sent) }
         ensures kept { OnOk result (self.new ≡ record self.old {
           items = self.old.items ++ out.items;
           post = self.new.post;
@@ -114,29 +115,31 @@ impl<P: Post> MasterAndChannels<P> {
         ensures room { OnOk result (length out.items ≤ P.room self.new.post) }
     {
         let Outgoing { sent, items } = out;
+        let outputs = KeptOutputs::sending(alloc, sent)?;
         self.post.reserve(alloc, items.len())?;
         let kept = self.items.append(items);
-        kept.and(Ok(sent))
+        kept.and(Ok(outputs))
     }
 
     /// Stores the master's mails and events, once the post has room for the mails,
-    /// and returns the mails as an entry has them.
-    fn send(&mut self, alloc: Global, outs: &Outs) -> Result<Listed<Sent>, AllocError>
-        requires { AreRising (kept_ids self.old.streams ++ outs.now.opened) }
-        ensures sent { IfOk result (λ sent. sent ≡ map sent_to outs.now.mails) }
+    /// and returns its outputs as an entry has them.
+    fn send(&mut self, alloc: Global, outs: Outs) -> Result<KeptOutputs, AllocError>
+        requires { AreRising (kept_ids self.old.streams ++ outs.opened) }
+        ensures outputs { IfOk result (λ outputs. outputs ≡ outputs_of_master outs) }
         ensures kept { OnOk result (self.new ≡ record self.old {
-          items = self.old.items ++ map item_to outs.now.mails;
-          streams = received outs.now.opened outs.now.events self.old.streams;
+          items = self.old.items ++ map item_to outs.mails;
+          streams = received outs.opened outs.events self.old.streams;
           post = self.new.post;
         }) }
         ensures unchanged { OnErr result (self.new ≡ record self.old { post = self.new.post }) }
         ensures post { P.known self.new.post ≡ P.known self.old.post }
-        ensures room { OnOk result (length outs.now.mails ≤ P.room self.new.post) }
+        ensures room { OnOk result (length outs.mails ≤ P.room self.new.post) }
     {
         self.post.reserve(alloc, outs.mails.len())?;
         let Outgoing { sent, items } = outgoing_to(alloc, outs.mails.as_slice())?;
-        let kept = self.keep(alloc, items, outs.opened.as_slice(), outs.events.as_slice());
-        kept.and(Ok(sent))
+        let outputs = KeptOutputs::of_master(alloc, outs.events, outs.closed, sent)?;
+        let kept = self.keep(alloc, items, outs.opened.as_slice(), outputs.events());
+        kept.and(Ok(outputs))
     }
 
     /// The master's outputs, stored and returned, once the post has room for its mails.
@@ -152,26 +155,17 @@ impl<P: Post> MasterAndChannels<P> {
         ensures post { P.known self.new.post ≡ P.known self.old.post }
         ensures room { OnOk result (length outs.mails ≤ P.room self.new.post) }
     {
-        let sent = self.send(alloc, &outs)?;
-        Ok(StepOutcome {
-            verdict: Verdict::Ok,
-            outputs: Outputs {
-                events: outs.events,
-                closed: outs.closed,
-                sent,
-                taken: None,
-            },
-            durable: None,
-        })
+        let outputs = self.send(alloc, outs)?;
+        Ok(made_with(outputs))
     }
 
     /// The master goes down, for want of memory.
-    fn fall(&mut self, alloc: Global) -> StepOutcome
+    fn fall(&mut self) -> StepOutcome
         ensures made { result ≡ ends_with verdicts.OutOfMemory }
         ensures down { self.new ≡ record self.old { master = None } }
     {
         drop(self.master.take());
-        ends_with(alloc, Verdict::OutOfMemory)
+        ends_with(Verdict::OutOfMemory)
     }
 
     /// Stores the outputs of the master's answer and returns them.
@@ -187,10 +181,10 @@ impl<P: Post> MasterAndChannels<P> {
         match answer {
             Ok(outs) => match self.keep_outputs(alloc, outs) {
                 Ok(made) => made,
-                Err(_) => self.fall(alloc),
+                Err(_) => self.fall(),
             },
-            Err(MasterFault::Refused(refusal)) => ends_with(alloc, Verdict::MasterRefused(refusal)),
-            Err(MasterFault::OutOfMemory) => self.fall(alloc),
+            Err(MasterFault::Refused(refusal)) => ends_with(Verdict::MasterRefused(refusal)),
+            Err(MasterFault::OutOfMemory) => self.fall(),
         }
     }
 }

@@ -30,18 +30,18 @@ use cluster_laws::{
 };
 use cluster_safe::masters_step_alone;
 use master_core::{ConfiguredAgents, Master, MasterFault, Outs};
-use messages::{ClusterFault, Outputs, Verdict};
+use messages::{ClusterFault, KeptOutputs, Verdict};
 use names_core::Run;
 use std::alloc::{AllocError, Global};
 use std::mem;
-use values::{Listed, Plain};
+use values::Plain;
 
 /// What a cluster has at its opening, and what the opening outputs.
 #[derive(Drop)]
 pub struct Opened<P: Post> {
     pub served: MasterAndChannels<P>,
     pub agents: Vec<ClusterAgent>,
-    pub outputs: Outputs,
+    pub outputs: KeptOutputs,
 }
 
 /// A new master that sends every agent a Hello represents the opening,
@@ -115,12 +115,7 @@ fn nothing<P: Post>(alloc: Global) -> Opened<P>
             post: P::empty(),
         },
         agents: Vec::new(alloc),
-        outputs: Outputs {
-            events: Listed::new(alloc),
-            closed: Listed::new(alloc),
-            sent: Listed::new(alloc),
-            taken: None,
-        },
+        outputs: KeptOutputs::nothing(),
     }
 }
 

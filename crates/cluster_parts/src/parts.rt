@@ -76,7 +76,7 @@ impl<P: Post> ClusterState<P> {
                 Keep::After => self.stop_after(alloc, agent),
             },
             Step::StopMaster => Ok(self.stop_master(alloc)),
-            Step::Take(stream) => self.take(alloc, *stream),
+            Step::Take(stream) => self.take(*stream),
         }
     }
 }

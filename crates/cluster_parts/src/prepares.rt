@@ -71,7 +71,7 @@ impl<P: Post> ClusterState<P> {
         let agent = &mut self.agents[place];
         match self.served.cause_handed(alloc, name, cause)? {
             Some(given) => Ok(draw(agent, alloc, given)),
-            None => Ok(ends_with(alloc, Verdict::AgentRefused(AgentRefusal::NotForMe))),
+            None => Ok(ends_with(Verdict::AgentRefused(AgentRefusal::NotForMe))),
         }
     }
 }

@@ -104,7 +104,7 @@ impl<P: Post> ClusterState<P> {
             }
             None => {
                 self.served.master = None;
-                ends_with(alloc, Verdict::Ok)
+                ends_with(Verdict::Ok)
             }
         }
     }

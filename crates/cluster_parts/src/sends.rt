@@ -22,15 +22,15 @@ ghost use Rattle.cluster_channels.specs.Kept.{kept_streams};
 ghost use Rattle.cluster_channels.specs.Streams.{next_on, taken};
 
 use crate::parts::ClusterState;
-use cluster_agents::{StepOutcome, made_sending};
+use cluster_agents::{StepOutcome, made_with};
 use cluster_channels::{
     Post, Streams, kept_streams_are_found, kept_streams_follow, no_more_is_taken,
 };
 use cluster_laws::{Item, sent_items_stand, streams_rise};
-use messages::{Call as SentCall, ClusterFault, Event, Outputs, Sent, StreamEvent, Verdict};
+use messages::{Call as SentCall, ClusterFault, Event, KeptOutputs, StreamEvent};
 use names_core::StreamId;
 use std::alloc::{AllocError, Global};
-use values::{Listed, Plain, Shared};
+use values::{Listed, Shared};
 
 /// A call is sent, and the agents are as they were.
 fn sends_are_made()
@@ -69,26 +69,13 @@ fn list_of_one<T: Drop>(alloc: Global, item: T) -> Result<Listed<T>, AllocError>
     Ok(Listed::from_vec(items))
 }
 
-/// An event that was taken, and nothing else.
-fn taking(alloc: Global, stream: StreamId, event: Event) -> Result<Outputs, AllocError>
-    ensures { IfOk result (λ outputs. outputs ≡ taking_out stream event) }
-{
-    let taken = Shared::new(alloc, StreamEvent { stream, event })?;
-    Ok(Outputs {
-        events: Listed::new(alloc),
-        closed: Listed::new(alloc),
-        sent: Listed::new(alloc),
-        taken: Some(taken),
-    })
-}
-
-/// A copy of the first event that waits on a stream, or `C1 NoSuchMail` where none waits.
-fn first_waiting(streams: &Streams, id: StreamId) -> Result<Event, ClusterFault>
+/// The first event that waits on a stream, or `C1 NoSuchMail` where none waits.
+fn first_waiting(streams: &Streams, id: StreamId) -> Result<Shared<Event>, ClusterFault>
     ensures event { IfOk result (λ event. next_on id streams.now ≡ Some event) }
     ensures none { IfErr result (MayLackEvent (next_on id streams.now)) }
 {
     match streams.next(id) {
-        Some(event) => Ok(event.copy()?),
+        Some(event) => Ok(event.share()?),
         None => Err(ClusterFault::NoSuchMail),
     }
 }
@@ -112,15 +99,14 @@ impl<P: Post> ClusterState<P> {
     {
         sends_are_made();
         let more = list_of_one(alloc, Item::Call(stream, call.share()?))?;
-        let sent = list_of_one(alloc, Sent::Call)?;
         self.served.post.reserve(alloc, 1)?;
         self.served.items.append(more)?;
-        Ok(made_sending(alloc, sent))
+        Ok(made_with(KeptOutputs::call()))
     }
 
     /// A framework takes the first event that waits on a stream, of any run.
     /// It is refused with `C1 NoSuchMail` where none waits, and with `C9 OutOfMemory`.
-    pub(crate) fn take(&mut self, alloc: Global, id: StreamId) -> Result<StepOutcome, ClusterFault>
+    pub(crate) fn take(&mut self, id: StreamId) -> Result<StepOutcome, ClusterFault>
         ensures made { IfOk result (AllTake self.old (Take id) self.new) }
         ensures refused { IfErr result (AllRefuse self.old (Take id)) }
         ensures unchanged { OnErr result (Same self.old self.new) }
@@ -130,13 +116,9 @@ impl<P: Post> ClusterState<P> {
     {
         takes_are_made();
         let event = first_waiting(&self.served.streams, id)?;
-        let outputs = taking(alloc, id, event)?;
+        let taken = StreamEvent { stream: id, event };
         match self.served.streams.take(id) {
-            Some(_) => Ok(StepOutcome {
-                verdict: Verdict::Ok,
-                outputs,
-                durable: None,
-            }),
+            Some(_) => Ok(made_with(KeptOutputs::taking(taken))),
             None => Err(ClusterFault::NoSuchMail),
         }
     }

@@ -30,7 +30,7 @@ impl<P: Post> ClusterState<P> {
         let place = found(self.agents.as_slice(), name)?;
         let agent = &mut self.agents[place];
         agent.stop_before();
-        Ok(ends_with(alloc, Verdict::Ok))
+        Ok(ends_with(Verdict::Ok))
     }
 
     /// The agent stops once its draft's record was saved, and is up again over that; the draft's
@@ -53,6 +53,6 @@ impl<P: Post> ClusterState<P> {
             return Err(ClusterFault::NoDraft);
         }
         agent.stop_after();
-        Ok(ends_with(alloc, Verdict::Ok))
+        Ok(ends_with(Verdict::Ok))
     }
 }

@@ -181,7 +181,8 @@ impl Executors {
         let tasks = record.tasks.as_slice();
         self.follow(tasks, now)?;
         if can_grow(record, total, is_in_session) {
-            self.due.push_back(StepCause::Start(Some(total.copy()?)))?;
+            let total = Shared::new(*self.due.allocator(), total.copy()?)?;
+            self.due.push_back(StepCause::Start(Some(total)))?;
         }
         if tasks.iter().any(|task| task.updates.front().is_some()) {
             self.due.push_back(StepCause::Again)?;

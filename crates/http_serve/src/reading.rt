@@ -37,7 +37,7 @@ pub(crate) fn answer_of(subscribes: bool, entry: &Entry) -> Answer
     ensures { result ≡ answer_of subscribes entry.now }
 {
     match entry.verdict {
-        Verdict::Ok => accepted(subscribes, entry.outputs.events.as_slice()),
+        Verdict::Ok => accepted(subscribes, entry.outputs.events()),
         Verdict::MasterRefused(refusal) => Answer::Refused(BenchFault::Master(refusal)),
         Verdict::AgentRefused(_) => Answer::Refused(BenchFault::NoSuchMail),
         Verdict::OutOfMemory => Answer::Refused(BenchFault::MasterOutOfMemory),
@@ -49,8 +49,8 @@ pub(crate) fn taken_event(entry: &Entry) -> Result<Event, AllocError>
     ensures { IfOk result (λ event. option_map (λ told. told.event) entry.now.outputs.taken
         ≡ Some event) }
 {
-    match &entry.outputs.taken {
-        Some(told) => Ok(told.get().event.copy()?),
+    match entry.outputs.taken() {
+        Some(told) => Ok(told.event.get().copy()?),
         None => Err(AllocError),
     }
 }

@@ -8,7 +8,7 @@ ghost use Rattle.master_rounds.specs.News.{CanAllBeMade, CanBeMade, news_of, off
 
 use master_agents::Sides;
 use master_state::place_in;
-use messages::{Event, Framework, Offers, SentOffer, StreamEvent};
+use messages::{Event, Framework, Offers, SentOffer, StreamEvent, push_event};
 use names_core::{FrameworkId, StreamId};
 use std::alloc::{AllocError, Global};
 use values::{Listed, Plain};
@@ -92,10 +92,7 @@ fn send_on(
         return Ok(());
     }
     let offers = Offers::from_vec(offers);
-    events.push(StreamEvent {
-        stream,
-        event: Event::Offers { offers },
-    })
+    push_event(events, stream, Event::Offers { offers })
 }
 
 fn send_to(

@@ -5,7 +5,7 @@ ghost use Rattle.cluster_model.specs.Ids.{last_number};
 ghost use Rattle.master_state.specs.States.{closed, new_stream, opened, sent, event_sent, task_state_sent};
 
 use crate::state::State;
-use messages::{Event, StreamEvent, TaskStatus, ToAgent};
+use messages::{Event, TaskStatus, ToAgent, push_event};
 use names_core::{AgentName, StreamId, TaskName, TaskState};
 use std::alloc::{AllocError, Global};
 
@@ -14,8 +14,7 @@ impl State {
     pub fn send_event(&mut self, stream: StreamId, event: Event) -> Result<(), AllocError>
         ensures { OnOk result (self.new ≡ event_sent stream event self.old) }
     {
-        self.outs.events.push(StreamEvent { stream, event })?;
-        Ok(())
+        push_event(&mut self.outs.events, stream, event)
     }
 
     /// The state of a task is sent on a stream, without an id that has to be acknowledged.

@@ -2,3 +2,4 @@ pub mod Causes
 pub mod Refusals
 pub mod Faults
 pub mod Verdicts
+pub mod Kept

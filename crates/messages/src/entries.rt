@@ -1,5 +1,7 @@
 //! The entries of a cluster's history: plain data.
 
 mod entry;
+mod kept;
 
 pub use entry::{Entry, Outputs};
+pub use kept::KeptOutputs;

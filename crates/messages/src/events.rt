@@ -12,4 +12,4 @@ pub use message::Message;
 pub use offer::SentOffer;
 pub use offers::Offers;
 pub use status::TaskStatus;
-pub use stream_event::StreamEvent;
+pub use stream_event::{StreamEvent, push_event};

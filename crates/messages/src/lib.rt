@@ -14,8 +14,8 @@ mod task;
 
 pub use call::{Call, ReconciledTask, TaskInfo};
 pub use cause::{Cause, ExecutorState};
-pub use entries::{Entry, Outputs};
-pub use events::{Event, Message, Offers, SentOffer, StreamEvent, TaskStatus};
+pub use entries::{Entry, KeptOutputs, Outputs};
+pub use events::{Event, Message, Offers, SentOffer, StreamEvent, TaskStatus, push_event};
 pub use framework::{Filter, Framework};
 pub use mail::{AgentMail, Command, MasterMail, ToAgent, ToMaster};
 pub use record::{RecordParts, RecordedTask};

@@ -123,7 +123,7 @@ fn is_to(sent: Option<&Sent>, name: &str) -> bool {
 }
 
 fn greets_a_first(cluster: &Cluster<EverSent>) -> bool {
-    let sent = cluster.opened().sent.as_slice();
+    let sent = cluster.opened().sent();
     is_to(sent.first(), "a") && is_to(sent.get(1), "b")
 }
 

@@ -148,7 +148,7 @@ const WRITTEN: &str = r#"0 ok
 
 /// The lines of an entry. The first call or mail that it sends has the number `first`.
 fn entry_lines(alloc: Global, number: u64, first: u64, entry: &Entry) -> Option<Vec<u8>> {
-    raised(first, entry.outputs.sent.len() as u64)?;
+    raised(first, entry.outputs.sent().len() as u64)?;
     entry_text(alloc, number, first, entry).ok()
 }
 
@@ -176,7 +176,7 @@ fn step_lines(
 
 /// The lines of the opening.
 fn opening_lines(cluster: &Cluster<EverSent>, alloc: Global) -> Option<Vec<u8>> {
-    let sent = cluster.opened().sent.as_slice();
+    let sent = cluster.opened().sent();
     raised(sent.len() as u64, 1)?;
     opening_text(alloc, sent).ok()
 }

@@ -1,6 +1,6 @@
 //! A list whose contracts see its items alone, and neither its capacity nor its allocator.
 
-ghost use Rattle.std.specs.Prelude.{◌≡◌, ◌<◌, ◌↔◌, ◌++◌, ◌∷◌, [], OnOk, OnErr, IsTrue, length, slice_index_or};
+ghost use Rattle.std.specs.Prelude.{◌≡◌, ◌<◌, ◌↔◌, ◌++◌, ◌∷◌, [], OnOk, OnErr, IfOk, IfErr, IsTrue, length, slice_index_or};
 ghost use Rattle.std.specs.List.{remove};
 
 use crate::plain::Plain;
@@ -63,7 +63,29 @@ impl<T> Listed<T> {
     }
 }
 
+impl<T> Listed<T> {
+    /// The allocator of the list's memory.
+    pub fn allocator(&self) -> Global {
+        *self.items.allocator()
+    }
+}
+
 impl<T: Drop> Listed<T> {
+    /// The only item of a list of one; else the list.
+    pub fn into_one(self) -> Result<T, Listed<T>>
+        ensures one { IfOk result (λ item. self ≡ item ∷ []) }
+        ensures others { IfErr result (λ list. list ≡ self) }
+    {
+        let mut items = self.items;
+        if items.len() != 1 {
+            return Err(Listed { items });
+        }
+        match items.pop() {
+            Some(item) => Ok(item),
+            None => Err(Listed { items }),
+        }
+    }
+
     /// Appends an item.
     pub fn push(&mut self, item: T) -> Result<(), AllocError>
         ensures ok { OnOk result (self.new ≡ self.old ++ item ∷ []) }

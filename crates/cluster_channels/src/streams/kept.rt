@@ -10,11 +10,12 @@ use names_core::StreamId;
 use std::alloc::{AllocError, Global};
 use std::collections::VecDeque;
 use std::marker::Model;
+use values::Shared;
 
 /// The events of a stream that nobody took yet, in order.
 #[derive(Drop)]
 pub struct Waiting {
-    events: VecDeque<Event>,
+    events: VecDeque<Shared<Event>>,
 }
 
 impl Model for Waiting {
@@ -41,13 +42,13 @@ impl Waiting {
         self.events.len()
     }
 
-    pub fn first(&self) -> Option<&Event>
+    pub fn first(&self) -> Option<&Shared<Event>>
         ensures { option_copied result ≡ slice_get self.now 0 }
     {
         self.events.front()
     }
 
-    pub(crate) fn push(&mut self, event: Event) -> Result<(), AllocError>
+    pub(crate) fn push(&mut self, event: Shared<Event>) -> Result<(), AllocError>
         ensures ok { OnOk result (self.new ≡ self.old ++ event ∷ []) }
         ensures err { OnErr result (self.new ≡ self.old) }
     {
@@ -55,7 +56,7 @@ impl Waiting {
         Ok(())
     }
 
-    pub(crate) fn take_first(&mut self) -> Option<Event>
+    pub(crate) fn take_first(&mut self) -> Option<Shared<Event>>
         ensures event { result ≡ slice_get self.old 0 }
         ensures rest { self.new ≡ drop 1 self.old }
     {

@@ -10,7 +10,7 @@ use crate::streams::kept::KeptStream;
 use messages::{Event, StreamEvent};
 use names_core::StreamId;
 use std::alloc::{AllocError, Global};
-use values::Plain;
+use values::{Plain, Shared};
 
 /// The place of a stream, found by halving.
 fn place_of(streams: &[KeptStream], id: StreamId) -> Option<usize>
@@ -142,7 +142,7 @@ pub(crate) fn receive_in(
     Ok(())
 }
 
-pub(crate) fn take_in(streams: &mut Vec<KeptStream>, id: StreamId) -> Option<Event>
+pub(crate) fn take_in(streams: &mut Vec<KeptStream>, id: StreamId) -> Option<Shared<Event>>
     requires { AreRising (kept_ids streams.old.items) }
     ensures event { result ≡ next_on id streams.old.items }
     ensures streams { streams.new.items ≡ taken id streams.old.items }

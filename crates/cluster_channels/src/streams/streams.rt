@@ -11,6 +11,7 @@ use messages::{Event, StreamEvent};
 use names_core::StreamId;
 use std::alloc::{AllocError, Global};
 use std::marker::Model;
+use values::Shared;
 
 /// Every stream that was ever opened, in that order, with the events on it that nobody took yet.
 /// Their ids rise, by run and then by number.
@@ -65,7 +66,7 @@ impl Streams {
 
     /// The first event that waits on a stream;
     /// none where the stream was never opened, or nothing waits.
-    pub fn next(&self, id: StreamId) -> Option<&Event>
+    pub fn next(&self, id: StreamId) -> Option<&Shared<Event>>
         ensures { option_copied result ≡ next_on id self.now }
     {
         stream_at(&self.streams, id)?.waiting.first()
@@ -87,7 +88,7 @@ impl Streams {
 
     /// Removes and returns the first event that waits on a stream; none where it was never opened,
     /// or nothing waits. It takes no memory.
-    pub fn take(&mut self, id: StreamId) -> Option<Event>
+    pub fn take(&mut self, id: StreamId) -> Option<Shared<Event>>
         ensures event { result ≡ next_on id self.old }
         ensures streams { self.new ≡ taken id self.old }
     {

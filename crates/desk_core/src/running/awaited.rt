@@ -5,7 +5,7 @@ ghost use Rattle.messages.specs.declared.entries.entry.Entry.{Entry};
 ghost use Rattle.desk_core.specs.Groups.{IsAmong, WakesForEach, agent_group, ends_a_part, freed_by_end, freed_by_event, freed_by_sent, groups_closed, groups_of, groups_output, groups_sent, groups_told, lacks_memory, name_hash, stops_master, stream_group, time_group};
 
 use crate::{Freed, GROUPS};
-use messages::{Entry, Outputs, Sent, Step, StreamEvent, Verdict};
+use messages::{Entry, KeptOutputs, Sent, Step, StreamEvent, Verdict};
 use names_core::{AgentName, StreamId};
 use std::marker::Model;
 
@@ -138,10 +138,10 @@ fn sent_at(sent: &[Sent], index: usize) -> Option<Freed>
 /// Whom the output at an index frees: the events are the first, then the streams that were closed
 /// and what was sent.
 #[tactic(auto, using(crate::proofs::Groups::get_left, crate::proofs::Groups::get_right))]
-fn output_at(outputs: &Outputs, index: usize) -> Option<Freed>
+fn output_at(outputs: &KeptOutputs, index: usize) -> Option<Freed>
     ensures { result ≡ slice_get (groups_output outputs.now) index }
 {
-    let (told, closed) = (outputs.events.as_slice(), outputs.closed.as_slice());
+    let (told, closed) = (outputs.events(), outputs.closed());
     if index < told.len() {
         return told_at(told, index);
     }
@@ -149,7 +149,7 @@ fn output_at(outputs: &Outputs, index: usize) -> Option<Freed>
     if index < closed.len() {
         return closed_at(closed, index);
     }
-    sent_at(outputs.sent.as_slice(), index - closed.len())
+    sent_at(outputs.sent(), index - closed.len())
 }
 
 fn stops_master(step: &Step) -> bool

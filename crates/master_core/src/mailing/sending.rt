@@ -11,7 +11,7 @@ ghost use Rattle.master_core.specs.Sending.{loss_of, lost_event, news, rescind_o
 use crate::mailing::reported::Reported;
 use master_agents::{OffersAt, TaskUpdate, TasksAt};
 use master_state::{Frameworks, is_due};
-use messages::{Booked, Event, Framework, Offer, StreamEvent, TaskStatus};
+use messages::{Booked, Event, Framework, Offer, StreamEvent, TaskStatus, push_event};
 use names_core::{AgentName, FrameworkId, StreamId, TaskState, UpdateId};
 use std::alloc::{AllocError, Global};
 use values::{Listed, Plain};
@@ -35,10 +35,7 @@ fn send_rescind(
 {
     match open_stream_of(frameworks, offer.framework) {
         None => Ok(()),
-        Some(stream) => events.push(StreamEvent {
-            stream,
-            event: Event::Rescind { offer: offer.id },
-        }),
+        Some(stream) => push_event(events, stream, Event::Rescind { offer: offer.id }),
     }
 }
 
@@ -94,7 +91,7 @@ fn send_loss(
         None => Ok(()),
         Some(stream) => {
             let event = lost(alloc, agent, task)?;
-            events.push(StreamEvent { stream, event })
+            push_event(events, stream, event)
         }
     }
 }
@@ -131,10 +128,7 @@ fn send_failure(
         None => Ok(()),
         Some(stream) => {
             let agent = agent.copy()?;
-            events.push(StreamEvent {
-                stream,
-                event: Event::Failure { agent },
-            })
+            push_event(events, stream, Event::Failure { agent })
         }
     }
 }
@@ -167,10 +161,7 @@ fn send_heartbeat(
     }
     match framework.stream {
         None => Ok(()),
-        Some(stream) => events.push(StreamEvent {
-            stream,
-            event: Event::Heartbeat,
-        }),
+        Some(stream) => push_event(events, stream, Event::Heartbeat),
     }
 }
 
@@ -236,7 +227,7 @@ fn send_news_of(
         None => Ok(()),
         Some(stream) => {
             let event = updated(alloc, agent, task, update)?;
-            events.push(StreamEvent { stream, event })
+            push_event(events, stream, event)
         }
     }
 }

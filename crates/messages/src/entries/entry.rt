@@ -2,10 +2,11 @@
 
 ghost use Rattle.std.proofs.Common.{rules};
 
+use crate::entries::kept::KeptOutputs;
 use crate::events::StreamEvent;
 use crate::steps::{Sent, Step, Verdict};
 use names_core::StreamId;
-use values::{Listed, Plain, Shared};
+use values::{Listed, Plain};
 
 /// What a step output.
 #[derive(Clone, Drop, PartialEq)]
@@ -16,7 +17,7 @@ pub struct Outputs {
     /// In the order of their numbers.
     pub sent: Listed<Sent>,
     /// The event that a Take returned.
-    pub taken: Option<Shared<StreamEvent>>,
+    pub taken: Option<StreamEvent>,
 }
 
 impl Plain for Outputs {
@@ -30,7 +31,7 @@ impl Plain for Outputs {
 
     ghost cloned = { Prim.search rules };
 
-    ghost decided = { λ x y. (let taken : Decides (⟦<Option<Shared<StreamEvent>> as PartialEq>⟧.eq
+    ghost decided = { λ x y. (let taken : Decides (⟦<Option<StreamEvent> as PartialEq>⟧.eq
         x.taken y.taken) (x.taken ≡ y.taken) = Prim.search (rules, event_decided) in
         (let d = and_decides (pointwise_decides event_decided x.events y.events) (and_decides
         (pointwise_decides stream_decided x.closed y.closed) (and_decides (pointwise_decides
@@ -46,11 +47,11 @@ impl Plain for Outputs {
 pub struct Entry {
     pub step: Step,
     pub verdict: Verdict,
-    pub outputs: Outputs,
+    pub outputs: KeptOutputs,
 }
 
 impl Plain for Entry {
-    ghost use Rattle.messages.specs.contracts.entries.entry.OutputsPlain.TheImpl.Laws.{cloned-law as outputs_cloned, decided-law as outputs_decided};
+    ghost use Rattle.messages.specs.contracts.entries.kept.KeptOutputsPlain.TheImpl.Laws.{cloned-law as outputs_cloned, decided-law as outputs_decided};
     ghost use Rattle.messages.specs.contracts.steps.verdict.VerdictPlain.TheImpl.Laws.{cloned-law as verdict_cloned, decided-law as verdict_decided};
     ghost use Rattle.messages.specs.contracts.steps.step.StepPlain.TheImpl.Laws.{cloned-law as step_cloned, decided-law as step_decided};
     ghost use Rattle.values.specs.Deciding.{and_decides};

@@ -12,7 +12,7 @@ use values::{Plain, Shared};
 pub enum StepCause {
     /// It starts, and opens a new session with the master of its last run.
     /// With a total it owns that from then on.
-    Start(Option<Resources>),
+    Start(Option<Shared<Resources>>),
     /// It sends again what isn't acknowledged.
     Again,
     /// The executor of the task of this key reports a state.

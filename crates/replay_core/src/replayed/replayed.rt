@@ -67,7 +67,7 @@ impl Replayed {
     pub fn greetings(&self) -> &[Sent]
         ensures { result.now ≡ greetings self.now }
     {
-        self.cluster.opened().sent.as_slice()
+        self.cluster.opened().sent()
     }
 
     /// Takes a step. It is `C9 OutOfMemory` too where a part of the cluster ran out of memory,

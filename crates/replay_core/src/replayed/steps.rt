@@ -35,7 +35,7 @@ fn entry_step(alloc: Global, number: u64, first: u64, entry: &Entry) -> Result<S
     ensures text { IfOk result (λ told. Some told.text.items ≡ entry_text number first entry.now) }
     ensures sent { IfOk result (λ told. told.sent ≡ length entry.now.outputs.sent) }
 {
-    let sent = entry.outputs.sent.len() as u64;
+    let sent = entry.outputs.sent().len() as u64;
     raised(first, sent)?;
     let text = entry_text(alloc, number, first, entry)?;
     Ok(StepText { text, sent })

@@ -2,15 +2,15 @@
 
 ghost use Rattle.std.specs.Prelude.{◌≡◌, ◌++◌, ◌+◌, ◌<◌, ◌^◌, Some, codes, length, IfOk, OnOk};
 ghost use Rattle.std.specs.List.{flat_map};
+ghost use Rattle.std.specs.Option.{option_copied};
 ghost use Rattle.step_text.specs.EntriesLines.{closed_line, entry_text, event_line, line, number_front, opening_text, outputs_text, refused_text, sent_line, sent_lines, taken_lines};
 
 use crate::entries::line::{event_front, mail_front, number_front, push_line};
 use crate::entries::words::{step_word, verdict_text};
 use event_json::{to_agent_text, to_master_text, write_event};
-use messages::{ClusterFault, Entry, Outputs, Sent, Step, StreamEvent};
+use messages::{ClusterFault, Entry, KeptOutputs, Sent, Step, StreamEvent};
 use names_core::StreamId;
 use std::alloc::{AllocError, Global};
-use values::Shared;
 
 fn push_event(
     alloc: Global,
@@ -101,13 +101,13 @@ fn push_sent(
 fn push_taken(
     alloc: Global,
     text: &mut Vec<u8>,
-    taken: &Option<Shared<StreamEvent>>,
+    taken: Option<&StreamEvent>,
 ) -> Result<(), AllocError>
-    ensures { OnOk result (text.new.items ≡ text.old.items ++ taken_lines taken.now) }
+    ensures { OnOk result (text.new.items ≡ text.old.items ++ taken_lines (option_copied taken)) }
 {
     match taken {
         None => Ok(()),
-        Some(event) => push_event(alloc, text, "<", event.get()),
+        Some(event) => push_event(alloc, text, "<", event),
     }
 }
 
@@ -116,16 +116,16 @@ fn push_outputs(
     text: &mut Vec<u8>,
     step: &Step,
     first: u64,
-    outputs: &Outputs,
+    outputs: &KeptOutputs,
 ) -> Result<(), AllocError>
     requires { first + length outputs.now.sent < 2 ^ 64 }
     ensures { OnOk result (text.new.items ≡ text.old.items
         ++ outputs_text step.now first outputs.now) }
 {
-    push_events(alloc, text, outputs.events.as_slice())?;
-    push_closed(alloc, text, outputs.closed.as_slice())?;
-    push_sent(alloc, text, step_word(step), first, outputs.sent.as_slice())?;
-    push_taken(alloc, text, &outputs.taken)
+    push_events(alloc, text, outputs.events())?;
+    push_closed(alloc, text, outputs.closed())?;
+    push_sent(alloc, text, step_word(step), first, outputs.sent())?;
+    push_taken(alloc, text, outputs.taken())
 }
 
 /// One line: a number, and the text after it.

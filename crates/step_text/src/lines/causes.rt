@@ -12,14 +12,21 @@ use messages::StepCause;
 use quantity::Resources;
 use serde_json::Value;
 use std::alloc::Global;
+use values::Shared;
 
 /// What an agent owns from its start on, where that is named.
-fn total_named(alloc: Global, value: Option<&Value>) -> Result<Option<Resources>, LineFault>
+fn total_named(
+    alloc: Global,
+    value: Option<&Value>,
+) -> Result<Option<Shared<Resources>>, LineFault>
     ensures { Gives (λ t. t) result
         (wanted (lines.total_named (option_map (λ v. view v.now) value.entry))) }
 {
     match value {
-        Some(value) => Ok(Some(total_of(alloc, LineRefusal::NotAStep, value)?)),
+        Some(value) => {
+            let total = total_of(alloc, LineRefusal::NotAStep, value)?;
+            Ok(Some(Shared::new(alloc, total)?))
+        }
         None => Ok(None),
     }
 }
