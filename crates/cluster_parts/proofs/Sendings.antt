@@ -16,7 +16,6 @@ use Rattle.cluster_laws.specs.declared.item.Item.TheVariants as items
 use Rattle.cluster_laws.specs.Items.{StandIn}
 use Rattle.cluster_laws.specs.Runs.{AreRising, ids_of}
 use Rattle.messages.specs.declared.entries.entry.Outputs.{Outputs}
-use Rattle.messages.specs.declared.steps.verdict.Sent as entries_so
 use Rattle.messages.specs.declared.steps.verdict.Sent.TheVariants as entries
 use Rattle.messages.specs.declared.steps.verdict.Verdict.TheVariants as verdicts
 use Rattle.cluster_channels.specs.Kept.{AreWithin, kept_streams, untaken}
@@ -51,12 +50,12 @@ send_made law c stream call sent r stand = record {
 abbrev pub SendLaw : Type 0
 SendLaw = (c : Cluster) (stream : Option Numbered) (call : Call) (sent : List Item) → Reached c → StandIn c sent → Makes c (Send stream call) verdicts.Ok (sending (entries.Call ∷ [])) (kept_agents c) (sent ++ items.Call stream call ∷ [])
 
-pub send_takes : {T : Type 0} → SendLaw → (c : Cluster) (stream : Option Numbered) (call given : Call) (made : StepOutcome) (sent_outs : List entries_so.Sent) (more : List Item) (p : ClusterState T) (js : List Item) (post : T) → PartsOf c p → given ≡ call → more ≡ items.Call stream given ∷ [] → sent_outs ≡ entries.Call ∷ [] → js ≡ p.served.items ++ more →
-    made ≡ record { verdict = verdicts.Ok; outputs = sending sent_outs; durable = None } → Takes c (Send stream call) made (record p { served = record p.served { items = js; post = post } })
-send_takes law c stream call given made sent_outs more p js post of same as_item as_told added is =
+pub send_takes : {T : Type 0} → SendLaw → (c : Cluster) (stream : Option Numbered) (call given : Call) (made : StepOutcome) (outs : Outputs) (more : List Item) (p : ClusterState T) (js : List Item) (post : T) → PartsOf c p → given ≡ call → more ≡ items.Call stream given ∷ [] → outs ≡ sending (entries.Call ∷ []) → js ≡ p.served.items ++ more →
+    made ≡ record { verdict = verdicts.Ok; outputs = outs; durable = None } → Takes c (Send stream call) made (record p { served = record p.served { items = js; post = post } })
+send_takes law c stream call given made outs more p js post of same as_item as_told added is =
     let m : Makes c (Send stream call) verdicts.Ok (sending (entries.Call ∷ [])) (kept_agents c) (p.served.items ++ items.Call stream call ∷ []) = law c stream call p.served.items of.reached of.stands.as_others.as_items in
     let kept : js ≡ p.served.items ++ items.Call stream call ∷ [] = added ∙ ap (λ (xs : List Item). p.served.items ++ xs) (as_item ∙ ap (λ (x : Call). items.Call stream x ∷ []) same) in
-    let how : made ≡ record { verdict = verdicts.Ok; outputs = sending (entries.Call ∷ []); durable = None } = is ∙ ap (λ (xs : List entries_so.Sent). record { verdict = verdicts.Ok; outputs = sending xs; durable = None }) as_told in
+    let how : made ≡ record { verdict = verdicts.Ok; outputs = sending (entries.Call ∷ []); durable = None } = is ∙ ap (λ (o : Outputs). record { verdict = verdicts.Ok; outputs = o; durable = None }) as_told in
     subst (λ (x : StepOutcome). Takes c (Send stream call) x (record p { served = record p.served { items = js; post = post } })) (sym how)
     (agent_takes c (Send stream call) (record { verdict = verdicts.Ok; outputs = sending (entries.Call ∷ []); durable = None }) p (record p { served = record p.served { items = js; post = post } }) of
     (subst (λ (xs : List KeptAgent). Makes c (Send stream call) verdicts.Ok (sending (entries.Call ∷ [])) xs js) (sym of.stands.as_agents)
@@ -112,12 +111,12 @@ abbrev pub TakeLaw : Type 0
 TakeLaw = (c : Cluster) (id : Numbered) (event : Event) (master : Option (Option Master)) (sent : List Item) → Reached c → StandsFor c master sent (kept_streams c.streams) → next_on id (kept_streams c.streams) ≡ Some event →
     MasterMakes c (Take id) c.last_tick (taking id event) master sent (taken id (kept_streams c.streams))
 
-pub take_takes : {T : Type 0} → TakeLaw → (c : Cluster) (id : Numbered) (event : Event) (outs : Outputs) (p : ClusterState T) (ts : List KeptStream) → PartsOf c p → next_on id p.served.streams ≡ Some event → outs ≡ taking_out id event → ts ≡ taken id p.served.streams →
-    Takes c (Take id) (record { verdict = verdicts.Ok; outputs = outs; durable = None }) (record p { served = record p.served { streams = ts } })
-take_takes law c id event outs p ts of e is left =
+pub take_takes : {T : Type 0} → TakeLaw → (c : Cluster) (id : Numbered) (event : Event) (outs : Outputs) (made : StepOutcome) (p : ClusterState T) (ts : List KeptStream) → PartsOf c p → next_on id p.served.streams ≡ Some event → outs ≡ taking_out id event → made ≡ record { verdict = verdicts.Ok; outputs = outs; durable = None } → ts ≡ taken id p.served.streams →
+    Takes c (Take id) made (record p { served = record p.served { streams = ts } })
+take_takes law c id event outs made p ts of e is how left =
     let same = of.stands.as_others.as_streams in
     let m : MasterMakes c (Take id) c.last_tick (taking id event) p.served.master p.served.items (taken id (kept_streams c.streams)) =
     law c id event p.served.master p.served.items of.reached (subst (λ (xs : List KeptStream). StandsFor c p.served.master p.served.items xs) same of.stands.as_others) (subst (λ (xs : List KeptStream). next_on id xs ≡ Some event) same e) in
     let kept : MasterMakes c (Take id) c.last_tick (taking id event) p.served.master p.served.items ts = subst (λ (xs : List KeptStream). MasterMakes c (Take id) c.last_tick (taking id event) p.served.master p.served.items xs) (sym (left ∙ ap (taken id) same)) m in
-    subst (λ (o : Outputs). Takes c (Take id) (record { verdict = verdicts.Ok; outputs = o; durable = None }) (record p { served = record p.served { streams = ts } })) (sym is)
+    subst (λ (x : StepOutcome). Takes c (Take id) x (record p { served = record p.served { streams = ts } })) (sym (how ∙ ap (λ (o : Outputs). record { verdict = verdicts.Ok; outputs = o; durable = None }) is))
     (master_takes c (Take id) c.last_tick (taking id event) p (record p { served = record p.served { streams = ts } }) of kept refl refl (sym of.stands.as_moment) refl)

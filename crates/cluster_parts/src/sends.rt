@@ -1,7 +1,7 @@
 //! Calls are sent, and events are taken.
 
 ghost use Rattle.std.specs.Prelude.{◌≡◌, ◌+◌, ◌++◌, ◌∷◌, [], length, List, Option, Some, None, IfOk, IfErr, OnErr};
-ghost use Rattle.cluster_parts.specs.Masters.{MasterMakes, StandsFor, taking, taking_out};
+ghost use Rattle.cluster_parts.specs.Masters.{MasterMakes, StandsFor, taking};
 ghost use Rattle.cluster_agents.specs.Moves.{Makes, Reached, Refuses, kept_agents, sending};
 ghost use Rattle.cluster_parts.specs.Parts.{AllRefuse, AllTake, Same};
 ghost use Rattle.cluster_parts.specs.Posts.{Grows};

@@ -10,6 +10,7 @@ use Rattle.messages.specs.declared.steps.fault.ClusterFault.TheVariants.{NoSuchM
 use Rattle.cluster_agents.specs.Sending.{BringsNothing}
 use Rattle.cluster_parts.specs.Parts.{AgentsRefuse, AllRefuse}
 use Rattle.messages.specs.declared.steps.step.Step.TheVariants.{Commit}
+use Rattle.messages.specs.declared.entries.entry.Outputs.{Outputs}
 use Rattle.messages.specs.declared.steps.verdict.Sent.{Sent}
 use Rattle.messages.specs.declared.steps.verdict.Verdict.TheVariants as verdicts
 use Rattle.cluster_agents.specs.Moves.{Refuses, kept_agents, sending}
@@ -61,9 +62,9 @@ returns-clause-made g c = λ s of.
     let there = at_place p c.as_slice.result.now name place a c.as_slice.ensures.value c.in_ok-place.ensures.place c.in_ok-place.ensures.within c.index_mut-agent.ensures.value in
     let at = here s p c.as_slice.result.now name place a of c.as_slice.ensures.value c.in_ok-place.ensures.place c.in_ok-place.ensures.within c.index_mut-agent.ensures.value in
     let up : a.is_down ≡ false = is_up c.as_slice.result.now p.agents.items place a c.as_slice.ensures.value there.1 c.in_ok-place.ensures.up in
-    one_takes s (Commit name) c.made_sending.result (sends c.in_ok-out.out.sent) p _ place c.commit-mails.new.self of (c.made_sending.ensures ∙ ap sends c.in_ok-sent.ensures.sent)
+    one_takes s (Commit name) c.made_with.result (sends c.in_ok-out.out.sent) p _ place c.commit-mails.new.self of (c.made_with.ensures ∙ ap (λ (o : Outputs). record { verdict = verdicts.Ok; outputs = o; durable = None }) c.in_ok-outputs.ensures.outputs)
     (commit_so c.commits_are_made.ensures.made s name place (kept_agents s) a c.commit-mails.new.self c.in_ok-out.out _ p.served.items c.keep_sent.new.self.items of.reached refl of.stands.as_others.as_items
-    at.0 at.1 up c.in_ok-out.ensures.brings c.commit-mails.ensures (ap (λ v. v.items) c.in_ok-sent.ensures.kept)) refl refl (ap (λ v. v.master) c.in_ok-sent.ensures.kept) (ap (λ v. v.streams) c.in_ok-sent.ensures.kept) refl refl
+    at.0 at.1 up c.in_ok-out.ensures.brings c.commit-mails.ensures (ap (λ v. v.items) c.in_ok-outputs.ensures.kept)) refl refl (ap (λ v. v.master) c.in_ok-outputs.ensures.kept) (ap (λ v. v.streams) c.in_ok-outputs.ensures.kept) refl refl
 
 pub returns-in_err-place-clause-room : goal.returns-in_err-place-clause-room
 returns-in_err-place-clause-room g c = grows_itself _ _
@@ -71,5 +72,5 @@ returns-in_err-place-clause-room g c = grows_itself _ _
 pub returns-in_err-out-clause-room : goal.returns-in_err-out-clause-room
 returns-in_err-out-clause-room g c = grows_itself _ _
 
-pub returns-in_err-sent-clause-room : goal.returns-in_err-sent-clause-room
-returns-in_err-sent-clause-room g c = same_grows _ _ _ (ap (λ v. v.items) c.in_err-sent.ensures.unchanged)
+pub returns-in_err-outputs-clause-room : goal.returns-in_err-outputs-clause-room
+returns-in_err-outputs-clause-room g c = same_grows _ _ _ (ap (λ v. v.items) c.in_err-outputs.ensures.unchanged)
