@@ -200,9 +200,12 @@ impl Clone for KeptOutputs {
 }
 
 impl PartialEq for KeptOutputs {
+    ghost use Rattle.messages.specs.contracts.entries.entry.OutputsPlain.TheImpl.Laws.{decided-law as outputs_decided};
+    ghost use Rattle.values.specs.Deciding.{per_from_decides};
+
     ghost eq = { ⟦<Outputs as PartialEq>⟧.eq };
 
-    ghost laws = { ⟦<Outputs as PartialEq>⟧.laws };
+    ghost laws = { per_from_decides outputs_decided };
 
     fn eq(&self, other: &KeptOutputs) -> bool {
         self.events() == other.events()
