@@ -15,10 +15,7 @@ use std::alloc::Global;
 use values::Shared;
 
 /// What an agent owns from its start on, where that is named.
-fn total_named(
-    alloc: Global,
-    value: Option<&Value>,
-) -> Result<Option<Shared<Resources>>, LineFault>
+fn total_named(alloc: Global, value: Option<&Value>) -> Result<Option<Shared<Resources>>, LineFault>
     ensures { Gives (λ t. t) result
         (wanted (lines.total_named (option_map (λ v. view v.now) value.entry))) }
 {
