@@ -4,7 +4,8 @@ ghost use Rattle.std.specs.Prelude.{◌≡◌, ◌↔◌, ◌⊎◌, true, false
 ghost use Rattle.names_core.specs.Names.{is_name, is_configured, bytes_before};
 
 use crate::fault::NameFault;
-use crate::name::{is_configured_name, is_plain_name, is_text_before, name_number};
+use crate::name::{is_configured_name, is_plain_name, is_text_before};
+use crate::name_text::NameText;
 use std::alloc::{AllocError, Global};
 use std::fmt;
 use std::hash::{Hash, Hasher};
@@ -14,28 +15,25 @@ use values::Plain;
 /// The name of an agent, its `agent_id`: 1 to 255 bytes of UTF-8 without control characters,
 /// space, slash and backslash.
 pub struct AgentName {
-    text: String,
-    /// The number of the text. Names whose numbers differ are two, so most comparisons end there.
-    number: u32,
+    text: NameText,
 }
 
 // By hand, so that who drops one goes through none of its parts.
 impl Drop for AgentName {
     fn drop(self) {
-        let AgentName { text: _, number: _ } = self;
+        let AgentName { text: _ } = self;
     }
 }
 
 impl Model for AgentName {
-    ghost use Rattle.std.specs.Prelude.{List, ℕ, ◌≡◌, true, string_bytes};
-    ghost use Rattle.names_core.specs.Names.{is_name, name_number};
+    ghost use Rattle.std.specs.Prelude.{List, ℕ, ◌≡◌, true};
+    ghost use Rattle.names_core.specs.Names.{is_name};
 
     ghost Value = { List ℕ };
 
-    ghost view = { λ name. string_bytes name.text };
+    ghost view = { λ name. name.text };
 
-    ghost invariant = { λ name. (is_name (string_bytes name.text) ≡ true)
-        × (name.number ≡ name_number (string_bytes name.text)) };
+    ghost invariant = { λ name. is_name name.text ≡ true };
 }
 
 impl AgentName {
@@ -48,8 +46,7 @@ impl AgentName {
             return Err(NameFault::BadName);
         }
         Ok(AgentName {
-            text: String::from_str(alloc, text)?,
-            number: name_number(text),
+            text: NameText::new(alloc, text)?,
         })
     }
 
@@ -72,7 +69,7 @@ impl AgentName {
     pub fn is(&self, other: &AgentName) -> bool
         ensures { result ≡ bytes_eq self.now other.now }
     {
-        self.number == other.number && self.as_text() == other.as_text()
+        self.text.is(&other.text)
     }
 
     /// Whether it comes before another name in byte order.
@@ -106,7 +103,6 @@ impl Clone for AgentName {
     fn clone(&self) -> Result<AgentName, AllocError> {
         Ok(AgentName {
             text: self.text.clone()?,
-            number: self.number,
         })
     }
 }

@@ -6,6 +6,7 @@ mod fault;
 mod framework;
 mod launch;
 mod name;
+mod name_text;
 mod numbered;
 mod offer;
 mod role;

@@ -5,6 +5,7 @@ ghost use Rattle.names_core.specs.Names.{bytes_before, is_role};
 
 use crate::fault::NameFault;
 use crate::name::{is_role_name, is_text_before};
+use crate::name_text::NameText;
 use std::alloc::{AllocError, Global};
 use std::marker::Model;
 use values::Plain;
@@ -13,7 +14,7 @@ use values::Plain;
 /// A slash is a plain character, and `*` is the default role.
 #[derive(Debug)]
 pub struct RoleName {
-    text: String,
+    text: NameText,
 }
 
 // By hand, so that who drops one goes through none of its parts.
@@ -24,14 +25,14 @@ impl Drop for RoleName {
 }
 
 impl Model for RoleName {
-    ghost use Rattle.std.specs.Prelude.{List, ℕ, ◌≡◌, true, string_bytes};
+    ghost use Rattle.std.specs.Prelude.{List, ℕ, ◌≡◌, true};
     ghost use Rattle.names_core.specs.Names.{is_role};
 
     ghost Value = { List ℕ };
 
-    ghost view = { λ name. string_bytes name.text };
+    ghost view = { λ name. name.text };
 
-    ghost invariant = { λ name. is_role (string_bytes name.text) ≡ true };
+    ghost invariant = { λ name. is_role name.text ≡ true };
 }
 
 impl RoleName {
@@ -44,7 +45,7 @@ impl RoleName {
             return Err(NameFault::BadName);
         }
         Ok(RoleName {
-            text: String::from_str(alloc, text)?,
+            text: NameText::new(alloc, text)?,
         })
     }
 
@@ -67,7 +68,7 @@ impl RoleName {
     pub fn is(&self, other: &RoleName) -> bool
         ensures { result ≡ bytes_eq self.now other.now }
     {
-        self.as_text() == other.as_text()
+        self.text.is(&other.text)
     }
 
     /// Whether it comes before another name in byte order.

@@ -4,7 +4,8 @@ ghost use Rattle.std.specs.Prelude.{◌≡◌, ◌↔◌, ◌⊎◌, true, false
 ghost use Rattle.names_core.specs.Names.{is_name};
 
 use crate::fault::NameFault;
-use crate::name::{is_plain_name, name_number};
+use crate::name::is_plain_name;
+use crate::name_text::NameText;
 use std::alloc::{AllocError, Global};
 use std::fmt;
 use std::marker::Model;
@@ -13,28 +14,25 @@ use values::Plain;
 /// The name of a task, its `task_id`, which its framework chooses:
 /// 1 to 255 bytes of UTF-8 without control characters, space, slash and backslash.
 pub struct TaskName {
-    text: String,
-    /// The number of the text. Names whose numbers differ are two, so most comparisons end there.
-    number: u32,
+    text: NameText,
 }
 
 // By hand, so that who drops one goes through none of its parts.
 impl Drop for TaskName {
     fn drop(self) {
-        let TaskName { text: _, number: _ } = self;
+        let TaskName { text: _ } = self;
     }
 }
 
 impl Model for TaskName {
-    ghost use Rattle.std.specs.Prelude.{List, ℕ, ◌≡◌, true, string_bytes};
-    ghost use Rattle.names_core.specs.Names.{is_name, name_number};
+    ghost use Rattle.std.specs.Prelude.{List, ℕ, ◌≡◌, true};
+    ghost use Rattle.names_core.specs.Names.{is_name};
 
     ghost Value = { List ℕ };
 
-    ghost view = { λ name. string_bytes name.text };
+    ghost view = { λ name. name.text };
 
-    ghost invariant = { λ name. (is_name (string_bytes name.text) ≡ true)
-        × (name.number ≡ name_number (string_bytes name.text)) };
+    ghost invariant = { λ name. is_name name.text ≡ true };
 }
 
 impl TaskName {
@@ -47,8 +45,7 @@ impl TaskName {
             return Err(NameFault::BadName);
         }
         Ok(TaskName {
-            text: String::from_str(alloc, text)?,
-            number: name_number(text),
+            text: NameText::new(alloc, text)?,
         })
     }
 
@@ -71,7 +68,7 @@ impl TaskName {
     pub fn is(&self, other: &TaskName) -> bool
         ensures { result ≡ bytes_eq self.now other.now }
     {
-        self.number == other.number && self.as_text() == other.as_text()
+        self.text.is(&other.text)
     }
 }
 
@@ -90,7 +87,6 @@ impl Clone for TaskName {
     fn clone(&self) -> Result<TaskName, AllocError> {
         Ok(TaskName {
             text: self.text.clone()?,
-            number: self.number,
         })
     }
 }
