@@ -6,16 +6,18 @@ use cluster_channels::Streams;
 use messages::{Event, StreamEvent};
 use names_core::{OfferId, StreamId};
 use std::alloc::Global;
+use values::Shared;
 
-fn rescind(run: u16, stream: u32, offer: u32) -> StreamEvent
+fn rescind(alloc: Global, run: u16, stream: u32, offer: u32) -> Option<StreamEvent>
     requires { (0 < run) × (0 < stream) × (0 < offer) }
 {
-    StreamEvent {
+    let event = Event::Rescind {
+        offer: OfferId::new(1, offer),
+    };
+    Some(StreamEvent {
         stream: StreamId::new(run, stream),
-        event: Event::Rescind {
-            offer: OfferId::new(1, offer),
-        },
-    }
+        event: Shared::new(alloc, event).ok()?,
+    })
 }
 
 /// Three streams of two runs; offers 1 and 3 are sent on the first one, 2 on the last one,
@@ -28,19 +30,19 @@ fn three_streams(alloc: Global) -> Option<Streams> {
         StreamId::new(2, 1),
     ];
     let told = [
-        rescind(1, 1, 1),
-        rescind(2, 1, 2),
-        rescind(1, 1, 3),
-        rescind(2, 2, 4),
+        rescind(alloc, 1, 1, 1)?,
+        rescind(alloc, 2, 1, 2)?,
+        rescind(alloc, 1, 1, 3)?,
+        rescind(alloc, 2, 2, 4)?,
     ];
     streams.receive(alloc, &opened, &told).ok()?;
     Some(streams)
 }
 
 /// The number of the offer that an event names.
-fn offer_of(event: Option<&Event>) -> Option<u32> {
+fn offer_of(event: &Event) -> Option<u32> {
     match event {
-        Some(Event::Rescind { offer }) => Some(offer.number()),
+        Event::Rescind { offer } => Some(offer.number()),
         _ => None,
     }
 }
@@ -48,14 +50,15 @@ fn offer_of(event: Option<&Event>) -> Option<u32> {
 fn next(streams: &Streams, run: u16, stream: u32) -> Option<u32>
     requires { (0 < run) × (0 < stream) }
 {
-    offer_of(streams.next(StreamId::new(run, stream)))
+    let event = streams.next(StreamId::new(run, stream))?;
+    offer_of(event.get())
 }
 
 fn take(streams: &mut Streams, run: u16, stream: u32) -> Option<u32>
     requires { (0 < run) × (0 < stream) }
 {
     let event = streams.take(StreamId::new(run, stream))?;
-    offer_of(Some(&event))
+    offer_of(event.get())
 }
 
 fn count(streams: &Streams, run: u16, stream: u32) -> Option<usize>

@@ -5,6 +5,7 @@ use master_core::{ConfiguredAgents, Master, MasterFault};
 use messages::{Call, Event, StreamEvent};
 use names_core::{Run, StreamId};
 use std::alloc::{AllocError, Global};
+use values::{Plain, Shared};
 
 /// A master, and the events on its streams that weren't taken yet.
 #[derive(Drop)]
@@ -50,7 +51,7 @@ impl Desk {
     }
 
     /// The first event of a stream that wasn't taken.
-    fn take(&mut self, stream: StreamId) -> Option<Event> {
+    fn take(&mut self, stream: StreamId) -> Option<Shared<Event>> {
         let at = self.told.iter().position(|told| told.stream == stream)?;
         Some(self.told.remove(at).event)
     }
@@ -84,7 +85,10 @@ impl Bench for Desk {
 
     /// Where no event is left, the stream counts as closed.
     fn next_events(&mut self, stream: StreamId) -> Result<Option<Event>, AllocError> {
-        Ok(self.take(stream))
+        match self.take(stream) {
+            Some(event) => Ok(Some(event.get().copy()?)),
+            None => Ok(None),
+        }
     }
 
     fn hang_up(&mut self, stream: StreamId) {
