@@ -9,8 +9,8 @@ use Rattle.names_core.specs.declared.state.TaskState.TheVariants.{Killed}
 use Rattle.quantity.specs.declared.rows.Row.{Row}
 use Rattle.quantity.specs.Rows.{covers}
 use Rattle.stream_core.specs.Updates.{is_done, is_full}
-use Rattle.messages.specs.declared.cause.Cause.{Cause}
-use Rattle.messages.specs.declared.cause.Cause.TheVariants.{Start, Mail, Executor, Again}
+use Rattle.messages.specs.declared.call.Cause.{Cause}
+use Rattle.messages.specs.declared.call.Cause.TheVariants.{Start, Mail, Executor, Again}
 use Rattle.messages.specs.Causes.{task_state}
 use Rattle.messages.specs.declared.mail.AgentMail.TheVariants.{Applied}
 use Rattle.messages.specs.declared.mail.Command.{Command}

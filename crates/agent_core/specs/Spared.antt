@@ -1,7 +1,7 @@
 -- Which tasks a cause leaves as they are.
 use Rattle.std.specs.Prelude.{Bool, true, not}
-use Rattle.messages.specs.declared.cause.Cause.{Cause}
-use Rattle.messages.specs.declared.cause.Cause.TheVariants.{Start, Mail, Executor, Again}
+use Rattle.messages.specs.declared.call.Cause.{Cause}
+use Rattle.messages.specs.declared.call.Cause.TheVariants.{Start, Mail, Executor, Again}
 use Rattle.messages.specs.declared.mail.Command.{Command}
 use Rattle.messages.specs.declared.mail.Command.TheVariants.{Launch, Kill, Ack, EndFramework}
 use Rattle.messages.specs.declared.mail.MasterMail.{MasterMail}

@@ -8,15 +8,15 @@ use Rattle.messages.specs.declared.call.Call.TheVariants.{Subscribe, Teardown, A
 use Rattle.call_json.specs.declared.members.fault.Refusal.{Refusal}
 use Rattle.call_json.specs.Calls.{read_call}
 use Rattle.call_json.specs.Texts as call_texts
-use Rattle.messages.specs.declared.events.event.Event.{Event}
-use Rattle.messages.specs.declared.events.event.Event.TheVariants.{Error}
+use Rattle.messages.specs.declared.events.Event.{Event}
+use Rattle.messages.specs.declared.events.Event.TheVariants.{Error}
 use Rattle.event_json.specs.Events.{event_text}
 use Rattle.messages.specs.declared.refusal.MasterRefusal.{MasterRefusal}
 use Rattle.cluster_model.specs.Masters.{MasterEffect, Master, after_doing, framework_of, stream_of}
 use Rattle.cluster_model.specs.Calls.{call_effect}
 use Rattle.master_state.specs.States.{fresh}
 use Rattle.master_state.specs.Works.{master_of}
-use Rattle.messages.specs.declared.events.stream_event.StreamEvent.{StreamEvent}
+use Rattle.messages.specs.declared.events.StreamEvent.{StreamEvent}
 use Rattle.master_core.specs.Steps.{outs_of}
 use Rattle.messages.specs.Refusals.{master_refusal_text}
 use Rattle.call_replies.specs.declared.fault.Stop.{Stop}

@@ -6,7 +6,7 @@ ghost use Rattle.frame_record.specs.Writes.{AppendsFront};
 ghost use Rattle.frame_record.specs.Firsts.{bodies};
 ghost use Rattle.call_json.specs.Calls.{read_call};
 ghost use Rattle.call_json.specs.Texts as call_texts;
-ghost use Rattle.messages.specs.declared.events.event.Event.TheVariants.{Error};
+ghost use Rattle.messages.specs.declared.events.Event.TheVariants.{Error};
 ghost use Rattle.call_replies.specs.Replies.{after_all, event_in, frame, frames, framework_of_call, replies, reply, stream_given, HasTaken, LacksAnswer, StopsAt};
 ghost use Rattle.call_replies.specs.declared.fault.Stop.TheVariants.{MasterMemory};
 

@@ -5,15 +5,15 @@ use Rattle.messages.specs.declared.mail.AgentMail.{AgentMail}
 use Rattle.cluster_model.specs.Agents.{Draft}
 use Rattle.cluster_model.specs.Channels.{Channel, Adopt}
 use Rattle.cluster_model.specs.Clusters.{Cluster}
-use Rattle.messages.specs.declared.steps.step.Step.TheVariants.{Commit}
-use Rattle.messages.specs.declared.steps.fault.ClusterFault.TheVariants.{AgentDown, NoDraft, NoSuchAgent}
-use Rattle.messages.specs.declared.steps.verdict.Verdict.TheVariants.{Ok as Fine}
+use Rattle.messages.specs.declared.steps.Step.TheVariants.{Commit}
+use Rattle.messages.specs.declared.steps.ClusterFault.TheVariants.{AgentDown, NoDraft, NoSuchAgent}
+use Rattle.messages.specs.declared.steps.Verdict.TheVariants.{Ok as Fine}
 use Rattle.cluster_model.specs.Steps.{answer, at_channel, by_draft, commits, if_up, with_draft}
 use Rattle.cluster_laws.specs.declared.item.Item.{Item}
 use Rattle.cluster_laws.specs.Items.{StandIn, items_sent}
 use Rattle.cluster_laws.specs.Parts.{Part, from_agent, part_of}
-use Rattle.messages.specs.declared.steps.verdict.Sent as code
-use Rattle.messages.specs.declared.steps.verdict.Verdict.TheVariants as verdicts
+use Rattle.messages.specs.declared.steps.Sent as code
+use Rattle.messages.specs.declared.steps.Verdict.TheVariants as verdicts
 use Rattle.cluster_agents.specs.Agents.{AdoptsOne, KeptAgent, place_in, with_part}
 use Rattle.cluster_agents.specs.Moves.{Makes, Reached, kept_agents, kept_part, sending, StandsAt}
 use Rattle.cluster_agents.specs.Sending.{BringsOut, item_from, sent_from}

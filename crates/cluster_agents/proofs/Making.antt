@@ -3,21 +3,21 @@ use Rattle.std.proofs.Common.{◌≡◌, ℕ, Bool, true, false, List, [], ◌�
 use Rattle.std.specs.Prelude.{if◌then◌else◌}
 use Rattle.messages.specs.declared.record.RecordParts.{RecordParts}
 use Rattle.messages.specs.declared.mail.MasterMail.{MasterMail}
-use Rattle.messages.specs.declared.cause.Cause.{Cause}
+use Rattle.messages.specs.declared.call.Cause.{Cause}
 use Rattle.cluster_model.specs.Ids.{last_number}
 use Rattle.cluster_model.specs.Agents.{Draft, receives_mail, next_of, recovered}
 use Rattle.cluster_model.specs.Channels.{Channel, AgentStep, Draw, DrawMail, Adopt, StopWithout, StopWith, At, ByAgent, agent_step, is_own}
 use Rattle.cluster_model.specs.Clusters.{Cluster, Stream, master_of}
-use Rattle.messages.specs.declared.steps.verdict.Sent.{Sent}
-use Rattle.messages.specs.declared.steps.step.Step.{Step}
-use Rattle.messages.specs.declared.steps.fault.ClusterFault.TheVariants.{HistoryFull}
-use Rattle.messages.specs.declared.steps.verdict.Verdict.{Verdict}
+use Rattle.messages.specs.declared.steps.Sent.{Sent}
+use Rattle.messages.specs.declared.steps.Step.{Step}
+use Rattle.messages.specs.declared.steps.ClusterFault.TheVariants.{HistoryFull}
+use Rattle.messages.specs.declared.steps.Verdict.{Verdict}
 use Rattle.cluster_model.specs.Openings.{GoodOpening, NamesOnce}
 use Rattle.cluster_model.specs.Steps.{Setup, Done, Marked, answer, done, fallen_answer, happening, receives, history, step_marked, streams_after}
 use Rattle.cluster_laws.specs.declared.item.Item.{Item}
 use Rattle.cluster_laws.specs.Items.{StandIn, call_of, items_sent, names_of, new_items}
 use Rattle.cluster_laws.specs.Parts.{IsSilent, Part, from_agent, part_of, parts_of}
-use Rattle.messages.specs.declared.steps.verdict.Verdict as verdicts
+use Rattle.messages.specs.declared.steps.Verdict as verdicts
 use Rattle.messages.specs.Verdicts.{fell}
 use Rattle.cluster_agents.specs.Moves.{Makes, Reached, kept_agents, kept_part, sending}
 use Rattle.cluster_agents.proofs.Finding.{SameBut, one_changes}

@@ -5,8 +5,8 @@ use Rattle.std.specs.List.{AllByRecursion as Each, find, position_from}
 use Rattle.std.proofs.lemmas.Iterator.Adapters.{position_from-zero}
 use Rattle.std.proofs.lemmas.Bool.Decides.{nat_tests}
 use Rattle.messages.specs.declared.call.Call.{Call}
-use Rattle.messages.specs.declared.cause.Cause.{Cause}
-use Rattle.messages.specs.declared.cause.Cause.TheVariants as causes
+use Rattle.messages.specs.declared.call.Cause.{Cause}
+use Rattle.messages.specs.declared.call.Cause.TheVariants as causes
 use Rattle.messages.specs.declared.mail.ToAgent.{ToAgent}
 use Rattle.messages.specs.declared.mail.ToMaster.{ToMaster}
 use Rattle.messages.specs.declared.mail.MasterMail.{MasterMail}
@@ -18,23 +18,23 @@ use Rattle.agent_core.specs.Drafts.{is_in_order}
 use Rattle.cluster_model.specs.Agents.{Draft, receives_mail, next_of, recovered}
 use Rattle.cluster_model.specs.Channels.{Channel, AgentStep, Draw, DrawMail, StopWithout, agent_step}
 use Rattle.cluster_model.specs.Clusters.{Cluster, Post, Called, Down, Up}
-use Rattle.messages.specs.declared.steps.step.Step.TheVariants.{Prepare}
-use Rattle.messages.specs.declared.steps.step.Step.{Step}
-use Rattle.messages.specs.declared.steps.fault.ClusterFault.{ClusterFault}
-use Rattle.messages.specs.declared.steps.fault.ClusterFault.TheVariants.{AgentDown, DraftOpen, NoSuchAgent, NoSuchMail}
-use Rattle.messages.specs.declared.steps.verdict.Verdict.TheVariants.{Ok as Fine, AgentRefused, OutOfMemory as Fell}
-use Rattle.messages.specs.declared.steps.verdict.Verdict.{Verdict}
+use Rattle.messages.specs.declared.steps.Step.TheVariants.{Prepare}
+use Rattle.messages.specs.declared.steps.Step.{Step}
+use Rattle.messages.specs.declared.steps.ClusterFault.{ClusterFault}
+use Rattle.messages.specs.declared.steps.ClusterFault.TheVariants.{AgentDown, DraftOpen, NoSuchAgent, NoSuchMail}
+use Rattle.messages.specs.declared.steps.Verdict.TheVariants.{Ok as Fine, AgentRefused, OutOfMemory as Fell}
+use Rattle.messages.specs.declared.steps.Verdict.{Verdict}
 use Rattle.cluster_model.specs.Steps.{Setup, Done, Marked, answer, agent_falls, at_channel, by_draft, channel_of, done, drafts, draws_mail, draws_mail_at, does, happening, history, if_up, instead, post_at, prepares, without_draft}
 use Rattle.cluster_laws.specs.declared.item.Item.{Item}
 use Rattle.cluster_laws.specs.declared.item.Item.TheVariants as items
 use Rattle.cluster_laws.specs.Items.{StandIn}
 use Rattle.cluster_laws.specs.Parts.{IsSilent, Part, part_of}
 use Rattle.cluster_laws.specs.Premises.{IsDown, IsUp}
-use Rattle.messages.specs.declared.steps.verdict.Verdict as code
-use Rattle.messages.specs.declared.steps.verdict.Verdict.TheVariants as verdicts
-use Rattle.messages.specs.declared.steps.fault.ClusterFault.TheVariants as faults
-use Rattle.messages.specs.declared.steps.step.StepCause.{StepCause}
-use Rattle.messages.specs.declared.steps.step.StepCause.TheVariants.{Start, Again, Executor, Mail}
+use Rattle.messages.specs.declared.steps.Verdict as code
+use Rattle.messages.specs.declared.steps.Verdict.TheVariants as verdicts
+use Rattle.messages.specs.declared.steps.ClusterFault.TheVariants as faults
+use Rattle.messages.specs.declared.steps.StepCause.{StepCause}
+use Rattle.messages.specs.declared.steps.StepCause.TheVariants.{Start, Again, Executor, Mail}
 use Rattle.cluster_agents.specs.Agents.{KeptAgent, agent_in, comes_up_without, drafted_in, goes_down, place_in, with_part}
 use Rattle.cluster_agents.specs.Causes.{Causes, Drawn, cause_due, for_it, item_at, mail_due, record_drawn, record_prepared}
 use Rattle.cluster_agents.specs.Handing.{MayRefuse, is_withheld}

@@ -3,15 +3,15 @@ use Rattle.std.proofs.Common.{◌≡◌, ℕ, Bool, false, not, List, [], filter
 use Rattle.cluster_model.specs.Agents.{Draft, recovered}
 use Rattle.cluster_model.specs.Channels.{Channel, StopWithout, StopWith}
 use Rattle.cluster_model.specs.Clusters.{Cluster}
-use Rattle.messages.specs.declared.steps.step.Step.TheVariants.{StopAgent}
-use Rattle.messages.specs.declared.steps.step.Keep.TheVariants.{Before, After}
-use Rattle.messages.specs.declared.steps.fault.ClusterFault.TheVariants.{NoDraft, NoSuchAgent}
-use Rattle.messages.specs.declared.steps.verdict.Verdict.TheVariants.{Ok as Fine}
+use Rattle.messages.specs.declared.steps.Step.TheVariants.{StopAgent}
+use Rattle.messages.specs.declared.steps.Keep.TheVariants.{Before, After}
+use Rattle.messages.specs.declared.steps.ClusterFault.TheVariants.{NoDraft, NoSuchAgent}
+use Rattle.messages.specs.declared.steps.Verdict.TheVariants.{Ok as Fine}
 use Rattle.cluster_model.specs.Steps.{at_channel, channel_of, stops, with_draft, by_draft, up_again, answer}
 use Rattle.cluster_laws.specs.declared.item.Item.{Item}
 use Rattle.cluster_laws.specs.Items.{StandIn}
 use Rattle.cluster_laws.specs.Parts.{Part, part_of}
-use Rattle.messages.specs.declared.steps.verdict.Verdict.TheVariants as verdicts
+use Rattle.messages.specs.declared.steps.Verdict.TheVariants as verdicts
 use Rattle.cluster_agents.specs.Agents.{KeptAgent, comes_up_with, comes_up_without, comes_up_over, place_in}
 use Rattle.cluster_agents.specs.Moves.{Makes, Reached, kept_agents, kept_part, sending}
 use Rattle.cluster_agents.proofs.Finding.{Found, found, not_found, kept_at, up_then, as_before}

@@ -1,19 +1,19 @@
 -- What an agent receives: a cause of its own, or a mail of a number.
 use Rattle.std.specs.Prelude.{◌≡◌, ◌-◌, ℕ, ◌==◌, if◌then◌else◌, List, slice_get, Option, Some, None, Result, Ok, Err, bytes_eq, ⊤}
-use Rattle.messages.specs.declared.cause.Cause.{Cause}
-use Rattle.messages.specs.declared.cause.Cause.TheVariants as causes
+use Rattle.messages.specs.declared.call.Cause.{Cause}
+use Rattle.messages.specs.declared.call.Cause.TheVariants as causes
 use Rattle.messages.specs.declared.mail.ToAgent.{ToAgent}
 use Rattle.messages.specs.declared.record.RecordParts.{RecordParts}
 use Rattle.messages.specs.declared.refusal.AgentRefusal.{AgentRefusal}
 use Rattle.cluster_model.specs.Agents.{Draft}
-use Rattle.messages.specs.declared.steps.verdict.Verdict.{Verdict}
-use Rattle.messages.specs.declared.steps.verdict.Verdict.TheVariants as verdicts
+use Rattle.messages.specs.declared.steps.Verdict.{Verdict}
+use Rattle.messages.specs.declared.steps.Verdict.TheVariants as verdicts
 use Rattle.cluster_laws.specs.declared.item.Item.{Item}
 use Rattle.cluster_laws.specs.declared.item.Item.TheVariants as items
-use Rattle.messages.specs.declared.steps.fault.ClusterFault.{ClusterFault}
-use Rattle.messages.specs.declared.steps.fault.ClusterFault.TheVariants.{NoSuchMail, MasterDown, AgentDown, DraftOpen, NoDraft, HistoryFull, TimeBack, NoSuchAgent, OutOfMemory}
-use Rattle.messages.specs.declared.steps.step.StepCause.{StepCause}
-use Rattle.messages.specs.declared.steps.step.StepCause.TheVariants.{Start, Again, Executor, Mail}
+use Rattle.messages.specs.declared.steps.ClusterFault.{ClusterFault}
+use Rattle.messages.specs.declared.steps.ClusterFault.TheVariants.{NoSuchMail, MasterDown, AgentDown, DraftOpen, NoDraft, HistoryFull, TimeBack, NoSuchAgent, OutOfMemory}
+use Rattle.messages.specs.declared.steps.StepCause.{StepCause}
+use Rattle.messages.specs.declared.steps.StepCause.TheVariants.{Start, Again, Executor, Mail}
 use Rattle.cluster_agents.specs.Agents.{KeptAgent, Draws, agent_in, comes_up_without, drafted, drafted_in, goes_down}
 
 -- what was sent under a number, from 1

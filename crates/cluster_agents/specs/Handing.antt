@@ -1,13 +1,13 @@
 -- What a step delivers, and why it may be refused.
 use Rattle.std.specs.Prelude.{◌≡◌, ◌⊎◌, ℕ, Bool, true, false, not, Option, Some, None, Ok}
 use Rattle.cluster_model.specs.Clusters.{Cluster}
-use Rattle.messages.specs.declared.steps.step.Step.{Step}
-use Rattle.messages.specs.declared.steps.step.Step.TheVariants.{Deliver, Prepare}
-use Rattle.messages.specs.declared.steps.step.StepCause.TheVariants.{Mail as ByMail, Start, Again, Executor, Mail}
+use Rattle.messages.specs.declared.steps.Step.{Step}
+use Rattle.messages.specs.declared.steps.Step.TheVariants.{Deliver, Prepare}
+use Rattle.messages.specs.declared.steps.StepCause.TheVariants.{Mail as ByMail, Start, Again, Executor, Mail}
 use Rattle.cluster_model.specs.Steps.{Done, answer}
-use Rattle.messages.specs.declared.steps.fault.ClusterFault.{ClusterFault}
-use Rattle.messages.specs.declared.steps.fault.ClusterFault.TheVariants.{NoSuchMail}
-use Rattle.messages.specs.declared.steps.step.StepCause.{StepCause}
+use Rattle.messages.specs.declared.steps.ClusterFault.{ClusterFault}
+use Rattle.messages.specs.declared.steps.ClusterFault.TheVariants.{NoSuchMail}
+use Rattle.messages.specs.declared.steps.StepCause.{StepCause}
 use Rattle.cluster_agents.specs.Moves.{Refuses}
 
 -- the number of what a step delivers

@@ -2,13 +2,13 @@
 use Rattle.std.specs.Prelude.{◌≡◌, ℕ, false, true, nat_le, if◌then◌else◌, List, [], map, Some, None, Ok, Err, bytes_eq, slice_get, ⊤}
 use Rattle.std.specs.List.{AllByRecursion as Each, list_any}
 use Rattle.messages.specs.declared.record.RecordParts.{RecordParts}
-use Rattle.messages.specs.declared.cause.Cause.TheVariants.{Mail}
+use Rattle.messages.specs.declared.call.Cause.TheVariants.{Mail}
 use Rattle.messages.specs.declared.mail.ToAgent.{ToAgent}
 use Rattle.agent_core.specs.Drafts.{is_in_order}
 use Rattle.cluster_model.specs.Ids.{last_number}
 use Rattle.cluster_model.specs.Clusters.{Cluster, master_of}
-use Rattle.messages.specs.declared.steps.step.Step.{Step}
-use Rattle.messages.specs.declared.steps.fault.ClusterFault.TheVariants.{OutOfMemory}
+use Rattle.messages.specs.declared.steps.Step.{Step}
+use Rattle.messages.specs.declared.steps.ClusterFault.TheVariants.{OutOfMemory}
 use Rattle.cluster_model.specs.Openings.{GoodOpening}
 use Rattle.cluster_model.specs.Steps.{Setup, Done, Marked, answer, fallen_answer, history}
 use Rattle.cluster_laws.specs.declared.item.Item.{Item}
@@ -16,10 +16,10 @@ use Rattle.cluster_laws.specs.Items.{StandIn}
 use Rattle.cluster_laws.specs.Parts.{Part, parts_of}
 use Rattle.cluster_laws.specs.Premises.{AreRecorded}
 use Rattle.cluster_laws.specs.declared.item.Item.TheVariants as items
-use Rattle.messages.specs.declared.entries.entry.Outputs.{Outputs}
-use Rattle.messages.specs.declared.steps.verdict.Sent.{Sent}
-use Rattle.messages.specs.declared.steps.verdict.Verdict.{Verdict}
-use Rattle.messages.specs.declared.steps.fault.ClusterFault.{ClusterFault}
+use Rattle.messages.specs.declared.entries.Outputs.{Outputs}
+use Rattle.messages.specs.declared.steps.Sent.{Sent}
+use Rattle.messages.specs.declared.steps.Verdict.{Verdict}
+use Rattle.messages.specs.declared.steps.ClusterFault.{ClusterFault}
 use Rattle.messages.specs.Verdicts.{fell}
 use Rattle.cluster_agents.specs.Agents.{KeptAgent, place_in}
 

@@ -1,6 +1,6 @@
 -- A step that ended, and has no outputs.
 use Rattle.std.specs.Prelude.{[], None}
-use Rattle.messages.specs.declared.steps.verdict.Verdict.{Verdict}
+use Rattle.messages.specs.declared.steps.Verdict.{Verdict}
 use Rattle.cluster_agents.specs.Moves.{sending}
 use Rattle.cluster_agents.specs.declared.outcomes.StepOutcome.{StepOutcome}
 

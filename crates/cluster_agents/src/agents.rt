@@ -4,7 +4,7 @@ ghost use Rattle.std.specs.Prelude.{◌≡◌, ◌<◌, false, true, length, opt
 ghost use Rattle.agent_core.specs.Drafts.{is_in_order};
 ghost use Rattle.cluster_model.specs.Agents.{next_of};
 ghost use Rattle.cluster_laws.specs.Parts.{recovered_part};
-ghost use Rattle.messages.specs.declared.steps.fault.ClusterFault.TheVariants.{NoSuchAgent};
+ghost use Rattle.messages.specs.declared.steps.ClusterFault.TheVariants.{NoSuchAgent};
 ghost use Rattle.cluster_agents.specs.Agents.{AdoptsOne, Draws, comes_up_with, comes_up_without, goes_down, place_in};
 
 use agent_core::{Agent, AgentFault, Draft, Record};

@@ -10,14 +10,14 @@ ghost use Rattle.cluster_laws.specs.Items.{StandIn};
 ghost use Rattle.cluster_laws.specs.declared.item.Item.{Item};
 ghost use Rattle.cluster_model.specs.Agents.{Draft, next_of};
 ghost use Rattle.cluster_model.specs.Clusters.{Cluster};
-ghost use Rattle.messages.specs.declared.steps.step.Step.TheVariants.{Commit, Prepare, StopAgent};
-ghost use Rattle.messages.specs.declared.steps.step.Keep.TheVariants.{After, Before};
-ghost use Rattle.messages.specs.declared.steps.verdict.Verdict.TheVariants as verdicts;
-ghost use Rattle.messages.specs.declared.steps.fault.ClusterFault.TheVariants.{AgentDown, DraftOpen, NoDraft, NoSuchAgent, NoSuchMail};
-ghost use Rattle.messages.specs.declared.steps.fault.ClusterFault.{ClusterFault};
-ghost use Rattle.messages.specs.declared.steps.verdict.Verdict.{Verdict};
-ghost use Rattle.messages.specs.declared.steps.step.StepCause.{StepCause};
-ghost use Rattle.messages.specs.declared.cause.Cause.{Cause};
+ghost use Rattle.messages.specs.declared.steps.Step.TheVariants.{Commit, Prepare, StopAgent};
+ghost use Rattle.messages.specs.declared.steps.Keep.TheVariants.{After, Before};
+ghost use Rattle.messages.specs.declared.steps.Verdict.TheVariants as verdicts;
+ghost use Rattle.messages.specs.declared.steps.ClusterFault.TheVariants.{AgentDown, DraftOpen, NoDraft, NoSuchAgent, NoSuchMail};
+ghost use Rattle.messages.specs.declared.steps.ClusterFault.{ClusterFault};
+ghost use Rattle.messages.specs.declared.steps.Verdict.{Verdict};
+ghost use Rattle.messages.specs.declared.steps.StepCause.{StepCause};
+ghost use Rattle.messages.specs.declared.call.Cause.{Cause};
 ghost use Rattle.messages.specs.declared.refusal.AgentRefusal.TheVariants.{NotForMe};
 
 use cluster_laws::{

@@ -3,7 +3,7 @@
 ghost use Rattle.std.specs.Prelude.{◌≡◌};
 ghost use Rattle.cluster_agents.specs.Moves.{sending};
 ghost use Rattle.cluster_agents.specs.Outcomes.{ends_with};
-ghost use Rattle.messages.specs.declared.steps.verdict.Verdict.TheVariants as verdicts;
+ghost use Rattle.messages.specs.declared.steps.Verdict.TheVariants as verdicts;
 
 use agent_core::Record;
 use cluster_laws::Item;

@@ -8,7 +8,7 @@ ghost use Rattle.cluster_agents.specs.Handing.{is_withheld};
 ghost use Rattle.cluster_agents.specs.Moves.{sending};
 ghost use Rattle.cluster_agents.specs.Outcomes.{ends_with};
 ghost use Rattle.cluster_model.specs.Agents.{next_of};
-ghost use Rattle.messages.specs.declared.steps.verdict.Verdict.TheVariants as verdicts;
+ghost use Rattle.messages.specs.declared.steps.Verdict.TheVariants as verdicts;
 
 use crate::agents::ClusterAgent;
 use crate::outcomes::{StepOutcome, ends_with, sending};

@@ -7,9 +7,9 @@ use Rattle.std.proofs.lemmas.Bool.Decides.{eqb_tells, leb_tells}
 use Rattle.std.proofs.lemmas.List.{length-take, take-map}
 use Rattle.std.proofs.lemmas.List.Folds.{list_all-map}
 use Rattle.std.proofs.lemmas.Option.{slice_get-map, slice_get-get_or}
-use Rattle.cluster_channels.specs.declared.posts.direction.Direction.{Direction}
-use Rattle.cluster_channels.specs.declared.posts.direction.Direction.TheVariants.{ToAgent, FromAgent}
-use Rattle.cluster_channels.specs.declared.posts.stores.Sent.{Sent}
+use Rattle.cluster_channels.specs.declared.posts.Direction.{Direction}
+use Rattle.cluster_channels.specs.declared.posts.Direction.TheVariants.{ToAgent, FromAgent}
+use Rattle.cluster_channels.specs.declared.posts.Sent.{Sent}
 use Rattle.cluster_channels.specs.Queueing.{Item, is_next, nothing_waits, same_queue}
 use Rattle.cluster_channels.specs.Stores.{AreInOrder, IsLast, item_of, items_of}
 use Rattle.cluster_channels.proofs.Lists.{all_pass, get_of_take, one_fails, take_of_get}

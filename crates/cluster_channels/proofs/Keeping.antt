@@ -8,10 +8,10 @@ use Rattle.std.proofs.lemmas.Bool.Decides.{eqb_tells, nat_tests}
 use Rattle.std.proofs.lemmas.List.Folds.{list_all-map}
 use Rattle.std.proofs.lemmas.List.{length-append, length-map, length-set, map-set, take-map, take-append-le, take_all}
 use Rattle.std.proofs.lemmas.Option.{slice_get-map, slice_get_cases, slice_get_within}
-use Rattle.cluster_channels.specs.declared.posts.direction.Direction.{Direction}
-use Rattle.cluster_channels.specs.declared.posts.direction.Direction.TheVariants.{Call, ToAgent, FromAgent}
-use Rattle.cluster_channels.specs.declared.posts.stores.LastNumbers.{LastNumbers}
-use Rattle.cluster_channels.specs.declared.posts.stores.Sent.{Sent}
+use Rattle.cluster_channels.specs.declared.posts.Direction.{Direction}
+use Rattle.cluster_channels.specs.declared.posts.Direction.TheVariants.{Call, ToAgent, FromAgent}
+use Rattle.cluster_channels.specs.declared.posts.LastNumbers.{LastNumbers}
+use Rattle.cluster_channels.specs.declared.posts.Sent.{Sent}
 use Rattle.cluster_channels.specs.Queueing.{Item, direction_in, handed_over, hands_out, is_next, nothing_waits, same_queue, with_given}
 use Rattle.cluster_channels.specs.Stores.{AreInOrder, AreLasts, IsLast, LastsByAgent, given_sent, item_of, items_of, last_in}
 use Rattle.cluster_channels.proofs.Lists.{each_passes, get_of_one_more, get_of_set, take_of_get}

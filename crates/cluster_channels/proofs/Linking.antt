@@ -6,10 +6,10 @@ use Rattle.std.proofs.lemmas.Bool.{cases_Bool, eqb-true}
 use Rattle.std.proofs.lemmas.Bool.Decides.{eqb_tells, leb_tells, nat_tests}
 use Rattle.std.proofs.lemmas.List.{length-append, length-map, length-set, length-take, map-append, take-append-le, take_all}
 use Rattle.std.proofs.lemmas.Option.{slice_get-get_or, slice_get_cases, slice_get_within}
-use Rattle.cluster_channels.specs.declared.posts.direction.Direction.{Direction}
-use Rattle.cluster_channels.specs.declared.posts.direction.Direction.TheVariants.{Call, ToAgent, FromAgent}
-use Rattle.cluster_channels.specs.declared.posts.stores.Link.{Link}
-use Rattle.cluster_channels.specs.declared.posts.stores.Sent.{Sent}
+use Rattle.cluster_channels.specs.declared.posts.Direction.{Direction}
+use Rattle.cluster_channels.specs.declared.posts.Direction.TheVariants.{Call, ToAgent, FromAgent}
+use Rattle.cluster_channels.specs.declared.posts.Link.{Link}
+use Rattle.cluster_channels.specs.declared.posts.Sent.{Sent}
 use Rattle.cluster_channels.specs.Queueing.{Item, handed_over, hands_out, is_next, nothing_waits, same_queue}
 use Rattle.cluster_channels.specs.Stores.{AreInOrder, AreLasts, AreLinked, IsFirstOrNone, IsFollowed, IsLast, LastsByAgent, before, first_in, first_with, given_sent, item_of, items_of, last_in, with_first, with_next}
 use Rattle.cluster_channels.proofs.Handing.{item_at, none_waits}

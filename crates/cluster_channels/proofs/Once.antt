@@ -5,7 +5,7 @@ use Rattle.std.specs.Option.{option_map}
 use Rattle.std.specs.Prelude.{nat_lt}
 use Rattle.std.proofs.lemmas.List.{length-set}
 use Rattle.std.proofs.lemmas.Option.{slice_get-get_or, slice_get_within}
-use Rattle.cluster_channels.specs.declared.posts.direction.Direction.{Direction}
+use Rattle.cluster_channels.specs.declared.posts.Direction.{Direction}
 use Rattle.cluster_channels.specs.Queueing.{AreBeforeGiven, Item, WasGiven, handed_over, hands_out, is_next, nothing_waits, same_queue, with_given, with_put}
 use Rattle.cluster_channels.proofs.Keeping.{given_at}
 use Rattle.cluster_channels.proofs.Lists.{both_true, each_passes, get_of_set, take_of_get}

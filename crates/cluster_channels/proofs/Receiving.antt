@@ -8,8 +8,8 @@ use Rattle.std.proofs.lemmas.List.Quantifiers.{position-Some}
 use Rattle.names_core.specs.Ids.{Numbered, same, before}
 use Rattle.cluster_model.specs.Steps.{events_on}
 use Rattle.cluster_laws.specs.Runs.{AreRising}
-use Rattle.messages.specs.declared.events.event.Event.{Event}
-use Rattle.messages.specs.declared.events.stream_event.StreamEvent.{StreamEvent}
+use Rattle.messages.specs.declared.events.Event.{Event}
+use Rattle.messages.specs.declared.events.StreamEvent.{StreamEvent}
 use Rattle.cluster_channels.specs.Streams.{KeptStream, kept_ids, is_kept_as, receiving, opened_stream, received, taking, taken}
 use Rattle.cluster_channels.proofs.Standing.{LeavesOthers, each_at, earlier_differs, others, others_stay, none_at, stands_at}
 

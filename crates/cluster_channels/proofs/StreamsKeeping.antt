@@ -8,7 +8,7 @@ use Rattle.std.proofs.lemmas.Option.{slice_get_within}
 use Rattle.names_core.specs.Ids.{Numbered, same, before}
 use Rattle.cluster_model.specs.Events.{Event, StreamEvent}
 use Rattle.cluster_model.specs.Clusters.{Cluster, Stream}
-use Rattle.messages.specs.declared.steps.step.Step.TheVariants.{Take}
+use Rattle.messages.specs.declared.steps.Step.TheVariants.{Take}
 use Rattle.cluster_model.specs.Steps.{answer, receives, new_stream, stream_at, streams_after, takes, takes_event, takes_one, events_on}
 use Rattle.cluster_laws.specs.Runs.{AreRising, ids_of}
 use Rattle.cluster_channels.specs.Streams.{KeptStream, first_waiting, received, receiving, is_kept_as, kept_ids, next_on, opened_stream, taken, taking}

@@ -1,8 +1,8 @@
 -- Calls and queues of mails, of which each is delivered once.
 use Rattle.std.specs.Prelude.{◌≡◌, ◌<◌, IfSome, ℕ, zero, suc, ◌-◌, List, [], ◌∷◌, ◌++◌, Bool, true, false, ◌&&◌, ◌||◌, not, ◌==◌, nat_lt, set, take, Option, None, Some, option_map, unwrap_or}
 use Rattle.std.specs.List.{slice_get, list_all}
-use Rattle.cluster_channels.specs.declared.posts.direction.Direction.{Direction}
-use Rattle.cluster_channels.specs.declared.posts.direction.Direction.TheVariants.{ToAgent, FromAgent}
+use Rattle.cluster_channels.specs.declared.posts.Direction.{Direction}
+use Rattle.cluster_channels.specs.declared.posts.Direction.TheVariants.{ToAgent, FromAgent}
 
 -- something that was sent, and whether it was delivered
 pub record Item : Type 0 where

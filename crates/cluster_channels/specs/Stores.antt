@@ -6,11 +6,11 @@ use Rattle.std.specs.List.{slice_get}
 use Rattle.std.specs.declared.hash.FoldHasher.{FoldHasher}
 use Rattle.std.specs.declared.hash.BuildHasherDefault.{BuildHasherDefault}
 use Rattle.std.specs.HashMap.{HashMap, get}
-use Rattle.cluster_channels.specs.declared.posts.direction.Direction.{Direction}
-use Rattle.cluster_channels.specs.declared.posts.direction.Direction.TheVariants.{Call, ToAgent, FromAgent}
-use Rattle.cluster_channels.specs.declared.posts.stores.LastNumbers.{LastNumbers}
-use Rattle.cluster_channels.specs.declared.posts.stores.Link.{Link}
-use Rattle.cluster_channels.specs.declared.posts.stores.Sent.{Sent}
+use Rattle.cluster_channels.specs.declared.posts.Direction.{Direction}
+use Rattle.cluster_channels.specs.declared.posts.Direction.TheVariants.{Call, ToAgent, FromAgent}
+use Rattle.cluster_channels.specs.declared.posts.LastNumbers.{LastNumbers}
+use Rattle.cluster_channels.specs.declared.posts.Link.{Link}
+use Rattle.cluster_channels.specs.declared.posts.Sent.{Sent}
 use Rattle.cluster_channels.specs.Queueing.{IsFirstWaiting, Item, nothing_waits, same_queue}
 
 abbrev pub LastsByAgent : Type 0

@@ -3,8 +3,8 @@ use Rattle.std.specs.Prelude.{ℕ, Bool, List, [], ◌++◌, map, drop, slice_ge
 use Rattle.std.specs.List.{find}
 use Rattle.names_core.specs.Ids.{Numbered, same}
 use Rattle.cluster_model.specs.Steps.{events_on}
-use Rattle.messages.specs.declared.events.event.Event.{Event}
-use Rattle.messages.specs.declared.events.stream_event.StreamEvent.{StreamEvent}
+use Rattle.messages.specs.declared.events.Event.{Event}
+use Rattle.messages.specs.declared.events.StreamEvent.{StreamEvent}
 pub use Rattle.cluster_channels.specs.declared.streams.kept.KeptStream.{KeptStream}
 
 abbrev pub kept_ids : List KeptStream → List Numbered

@@ -19,9 +19,9 @@ use Rattle.cluster_laws.specs.Items.{StandIn, channel_at, down_item, item_of, na
 use Rattle.cluster_laws.specs.Premises.{IsDown, IsUp}
 use Rattle.cluster_laws.specs.declared.item.Item.{Item}
 use Rattle.cluster_laws.specs.declared.item.Item.TheVariants as items
-use Rattle.messages.specs.declared.entries.entry.Outputs.{Outputs}
-use Rattle.cluster_channels.specs.declared.posts.direction.Direction.{Direction}
-use Rattle.cluster_channels.specs.declared.posts.direction.Direction.TheVariants as ways
+use Rattle.messages.specs.declared.entries.Outputs.{Outputs}
+use Rattle.cluster_channels.specs.declared.posts.Direction.{Direction}
+use Rattle.cluster_channels.specs.declared.posts.Direction.TheVariants as ways
 use Rattle.cluster_channels.specs.Numbers.{handed_out_was_put}
 use Rattle.cluster_channels.specs.Queueing.{IsFirstWaiting, direction_in, hands_out, is_next, nothing_waits, same_queue}
 use Rattle.cluster_channels.specs.Queueing as queue

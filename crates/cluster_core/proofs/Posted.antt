@@ -4,12 +4,12 @@ use Rattle.std.specs.Prelude.{if◌then◌else◌}
 use Rattle.cluster_model.specs.Agents.{Draft}
 use Rattle.cluster_model.specs.Channels.{Channel}
 use Rattle.cluster_model.specs.Clusters.{Cluster, Post}
-use Rattle.messages.specs.declared.steps.step.Step.{Step}
-use Rattle.messages.specs.declared.steps.fault.ClusterFault.{ClusterFault}
-use Rattle.messages.specs.declared.steps.step.Step.TheVariants.{Send, Deliver, Allocate, Tick, LoseAgent, HangUp, Prepare, Commit, StopAgent, StopMaster, Take}
-use Rattle.messages.specs.declared.steps.step.Keep.TheVariants.{Before, After}
-use Rattle.messages.specs.declared.steps.step.StepCause.TheVariants.{Start as ByStart, Again as ByAgain, Executor as ByExecutor, Mail as ByMail}
-use Rattle.messages.specs.declared.steps.fault.ClusterFault.TheVariants.{AgentDown, DraftOpen, HistoryFull, MasterDown}
+use Rattle.messages.specs.declared.steps.Step.{Step}
+use Rattle.messages.specs.declared.steps.ClusterFault.{ClusterFault}
+use Rattle.messages.specs.declared.steps.Step.TheVariants.{Send, Deliver, Allocate, Tick, LoseAgent, HangUp, Prepare, Commit, StopAgent, StopMaster, Take}
+use Rattle.messages.specs.declared.steps.Keep.TheVariants.{Before, After}
+use Rattle.messages.specs.declared.steps.StepCause.TheVariants.{Start as ByStart, Again as ByAgain, Executor as ByExecutor, Mail as ByMail}
+use Rattle.messages.specs.declared.steps.ClusterFault.TheVariants.{AgentDown, DraftOpen, HistoryFull, MasterDown}
 use Rattle.cluster_model.specs.Ids.{last_number}
 use Rattle.cluster_model.specs.Steps.{Done, answer, at_channel, by_draft, channel_of, delivers, draws_mail, if_up, is_fallen, post_at, prepares, without_draft}
 use Rattle.cluster_laws.specs.Items.{StandIn, item_of}

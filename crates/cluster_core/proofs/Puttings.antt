@@ -17,8 +17,8 @@ use Rattle.cluster_laws.specs.Items.{Stand, StandIn, channel_at, down_item, item
 use Rattle.cluster_laws.specs.Parts.{AreAgentsOf, configured}
 use Rattle.cluster_laws.specs.declared.item.Item.{Item}
 use Rattle.cluster_laws.specs.declared.item.Item.TheVariants as items
-use Rattle.cluster_channels.specs.declared.posts.direction.Direction.{Direction}
-use Rattle.cluster_channels.specs.declared.posts.direction.Direction.TheVariants.{ToAgent, FromAgent}
+use Rattle.cluster_channels.specs.declared.posts.Direction.{Direction}
+use Rattle.cluster_channels.specs.declared.posts.Direction.TheVariants.{ToAgent, FromAgent}
 use Rattle.cluster_core.specs.Keeping.{known_opened}
 use Rattle.cluster_core.specs.Putting.{ArePut, IsPut, Puts, direction_of, place_in, place_or_end, way_of}
 use Rattle.cluster_core.specs.Stories.{Story, state_of}

@@ -4,7 +4,7 @@ use Rattle.std.specs.Prelude.{if◌then◌else◌}
 use Rattle.std.proofs.lemmas.Bool.Decides.{nat_tests}
 use Rattle.messages.specs.declared.record.RecordParts.{RecordParts}
 use Rattle.cluster_model.specs.Clusters.{Cluster}
-use Rattle.messages.specs.declared.steps.fault.ClusterFault.{ClusterFault}
+use Rattle.messages.specs.declared.steps.ClusterFault.{ClusterFault}
 use Rattle.cluster_model.specs.Ids.{last_number}
 use Rattle.cluster_model.specs.Steps.{Setup, Done, History, Marked, answer, entry_of, extend_all, extended, fallen_answer, history, marked_of, opening, step_marked, unmarked}
 use Rattle.cluster_laws.specs.Items.{StandIn, new_items}
@@ -14,13 +14,13 @@ use Rattle.cluster_laws.specs.Premises.{AreRecorded}
 use Rattle.cluster_model.specs.Openings.{GoodOpening}
 use Rattle.cluster_parts.specs.Opening.{Opens}
 use Rattle.cluster_parts.specs.declared.opening.Opened.{Opened}
-use Rattle.messages.specs.declared.entries.entry.Entry.{Entry}
-use Rattle.messages.specs.declared.entries.entry.Outputs.{Outputs}
-use Rattle.messages.specs.declared.steps.fault.ClusterFault.TheVariants as faults
-use Rattle.messages.specs.declared.steps.step.Step.{Step}
+use Rattle.messages.specs.declared.entries.Entry.{Entry}
+use Rattle.messages.specs.declared.entries.Outputs.{Outputs}
+use Rattle.messages.specs.declared.steps.ClusterFault.TheVariants as faults
+use Rattle.messages.specs.declared.steps.Step.{Step}
 use Rattle.cluster_agents.specs.Handing.{MayRefuse}
 use Rattle.cluster_core.specs.Keeping.{IsKept, IsRefused, IsTaken, entry_made, taken_made}
-use Rattle.cluster_channels.specs.declared.posts.direction.Direction.{Direction}
+use Rattle.cluster_channels.specs.declared.posts.Direction.{Direction}
 use Rattle.cluster_agents.specs.Moves.{Reached}
 use Rattle.cluster_parts.specs.Parts.{AreParts, ArePartsBy, PartsOf, Same, Stands, Takes, record_of}
 use Rattle.cluster_core.specs.Putting.{ArePut}

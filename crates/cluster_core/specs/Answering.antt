@@ -1,13 +1,13 @@
 -- How a desk over a cluster answers.
-use Rattle.messages.specs.declared.entries.entry.Entry.{Entry}
-use Rattle.messages.specs.declared.steps.fault.ClusterFault.{ClusterFault}
-use Rattle.messages.specs.declared.steps.step.Step.{Step}
+use Rattle.messages.specs.declared.entries.Entry.{Entry}
+use Rattle.messages.specs.declared.steps.ClusterFault.{ClusterFault}
+use Rattle.messages.specs.declared.steps.Step.{Step}
 use Rattle.desk_core.specs.Found.{IsRefusedCall}
 use Rattle.desk_core.specs.Receipts.{IsTaken, PassState}
 use Rattle.desk_core.specs.declared.desk.pass.Answered.{Answered}
 use Rattle.desk_core.specs.declared.fault.OfficeFault.{OfficeFault}
 use Rattle.cluster_core.specs.Recording.{IsSound, MayRefuse, Recorded, Takes, kind_of}
-use Rattle.desk_core.specs.declared.running.given.Given.{Given}
+use Rattle.desk_core.specs.declared.running.Given.{Given}
 
 -- in a sound state the cluster took the step: its entry is the receipt's,
 -- under the receipt's number, and this was returned with it

@@ -4,15 +4,15 @@ use Rattle.cluster_model.specs.Clusters.{Cluster, Post}
 use Rattle.cluster_model.specs.Ids.{last_number}
 use Rattle.cluster_model.specs.Masters.{Master}
 use Rattle.master_core.specs.Steps.{offered_on}
-use Rattle.cluster_channels.specs.declared.posts.direction.Direction.{Direction}
+use Rattle.cluster_channels.specs.declared.posts.Direction.{Direction}
 use Rattle.quantity.specs.declared.rows.Row.{Row}
 use Rattle.cluster_model.specs.Steps.{Done, entry_of, marked_of, open_cluster, step_marked, unmarked}
 use Rattle.cluster_laws.specs.Parts.{AreAgentsOf, configured}
-use Rattle.messages.specs.declared.entries.entry.Entry.{Entry}
-use Rattle.messages.specs.declared.entries.entry.Outputs.{Outputs}
-use Rattle.messages.specs.declared.steps.fault.ClusterFault.{ClusterFault}
-use Rattle.messages.specs.declared.steps.fault.ClusterFault.TheVariants.{NoSuchMail, OutOfMemory}
-use Rattle.messages.specs.declared.steps.step.Step.{Step}
+use Rattle.messages.specs.declared.entries.Entry.{Entry}
+use Rattle.messages.specs.declared.entries.Outputs.{Outputs}
+use Rattle.messages.specs.declared.steps.ClusterFault.{ClusterFault}
+use Rattle.messages.specs.declared.steps.ClusterFault.TheVariants.{NoSuchMail, OutOfMemory}
+use Rattle.messages.specs.declared.steps.Step.{Step}
 use Rattle.cluster_agents.specs.Handing.{handed}
 use Rattle.cluster_agents.specs.Moves.{kept_agents}
 use Rattle.cluster_parts.specs.Parts.{Stands, record_of}

@@ -4,7 +4,7 @@ use Rattle.messages.specs.declared.task.Offer.{Offer}
 use Rattle.cluster_model.specs.Clusters.{Cluster, master_of}
 use Rattle.cluster_model.specs.Masters.{Master, framework_of, stream_of}
 use Rattle.cluster_model.specs.Sides.{Side}
-use Rattle.desk_core.specs.declared.running.open_offer.OpenOffer.{OpenOffer}
+use Rattle.desk_core.specs.declared.running.OpenOffer.{OpenOffer}
 
 -- an offer of a master, its framework, and the framework's open stream
 abbrev pub open_offer : Option Master → Offer → OpenOffer

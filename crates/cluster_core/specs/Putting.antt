@@ -4,8 +4,8 @@ use Rattle.master_agents.specs.declared.config.ConfiguredAgent.{ConfiguredAgent}
 use Rattle.cluster_laws.specs.declared.item.Item.{Item}
 use Rattle.cluster_laws.specs.declared.item.Item.TheVariants as items
 use Rattle.cluster_model.specs.Clusters.{Post, Called, Down, Up}
-use Rattle.cluster_channels.specs.declared.posts.direction.Direction.{Direction}
-use Rattle.cluster_channels.specs.declared.posts.direction.Direction.TheVariants.{Call, ToAgent, FromAgent}
+use Rattle.cluster_channels.specs.declared.posts.Direction.{Direction}
+use Rattle.cluster_channels.specs.declared.posts.Direction.TheVariants.{Call, ToAgent, FromAgent}
 
 -- the place of the agent of a name in the configuration
 abbrev pub place_in : List ℕ → List ConfiguredAgent → Option ℕ

@@ -1,10 +1,10 @@
 -- A cluster as what is recorded.
 use Rattle.std.specs.Prelude.{◌≡◌, length}
 use Rattle.std.proofs.Common.{refl}
-use Rattle.messages.specs.declared.entries.entry.Entry.{Entry}
-use Rattle.messages.specs.declared.steps.fault.ClusterFault.{ClusterFault}
-use Rattle.messages.specs.declared.steps.fault.ClusterFault.TheVariants as faults
-use Rattle.messages.specs.declared.steps.step.Step.{Step}
+use Rattle.messages.specs.declared.entries.Entry.{Entry}
+use Rattle.messages.specs.declared.steps.ClusterFault.{ClusterFault}
+use Rattle.messages.specs.declared.steps.ClusterFault.TheVariants as faults
+use Rattle.messages.specs.declared.steps.Step.{Step}
 use Rattle.cluster_core.specs.Keeping.{IsRefused, IsTaken, Known, known_after}
 use Rattle.cluster_core.specs.Safety.{Safe}
 use Rattle.cluster_core.specs.Stories.{IsLegal, state_of}
@@ -12,7 +12,7 @@ use Rattle.cluster_agents.specs.Handing.{IsGiven}
 use Rattle.desk_core.specs.declared.fault.FaultKind.{FaultKind}
 use Rattle.desk_core.specs.declared.fault.FaultKind.TheVariants as kinds
 use Rattle.cluster_channels.specs.Queueing.{Post, hands_out, with_given, with_put}
-use Rattle.desk_core.specs.declared.running.given.Given.{Given}
+use Rattle.desk_core.specs.declared.running.Given.{Given}
 
 abbrev pub Recorded : Type 0
 Recorded = Known Post

@@ -2,7 +2,7 @@
 use Rattle.std.specs.Prelude.{◌≡◌, Bool, List, map}
 use Rattle.messages.specs.declared.record.RecordParts.{RecordParts}
 use Rattle.cluster_model.specs.Steps.{Setup, Marked, extended, history, step_marked}
-use Rattle.messages.specs.declared.steps.step.Step.{Step}
+use Rattle.messages.specs.declared.steps.Step.{Step}
 use Rattle.cluster_core.specs.Stories.{Story, history_of, state_of}
 
 abbrev pub marked_as : Bool → Step → Marked

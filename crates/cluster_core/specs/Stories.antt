@@ -7,7 +7,7 @@ use Rattle.cluster_model.specs.Clusters.{Cluster}
 use Rattle.cluster_model.specs.Openings.{GoodOpening}
 use Rattle.cluster_model.specs.Steps.{Setup, Done, History, entry_of, history, marked_of, opening, step_marked}
 use Rattle.cluster_laws.specs.Premises.{AreRecorded}
-use Rattle.messages.specs.declared.entries.entry.Entry.{Entry}
+use Rattle.messages.specs.declared.entries.Entry.{Entry}
 use Rattle.cluster_agents.specs.Records.{in_order}
 
 pub record Story : Type 0 where

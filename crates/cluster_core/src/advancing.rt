@@ -5,7 +5,7 @@ ghost use Rattle.cluster_core.specs.Keeping.{IsFull, IsKept, IsRefused, IsTaken,
 ghost use Rattle.cluster_core.specs.Putting.{ArePut, direction_of, place_in, place_or_end, with_handed};
 ghost use Rattle.cluster_core.specs.Stories.{state_of, with_entry};
 ghost use Rattle.cluster_agents.specs.Handing.{IsGiven, handed};
-ghost use Rattle.messages.specs.declared.steps.fault.ClusterFault.TheVariants.{HistoryFull};
+ghost use Rattle.messages.specs.declared.steps.ClusterFault.TheVariants.{HistoryFull};
 
 use crate::taken::{History, Taken};
 use cluster_channels::{Direction, Post};

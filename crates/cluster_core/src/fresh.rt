@@ -2,7 +2,7 @@
 
 ghost use Rattle.std.specs.Prelude.{◌≡◌, [], IfOk, IfErr};
 ghost use Rattle.cluster_agents.specs.Fresh.{fresh_records};
-ghost use Rattle.messages.specs.declared.steps.fault.ClusterFault.TheVariants.{OutOfMemory};
+ghost use Rattle.messages.specs.declared.steps.ClusterFault.TheVariants.{OutOfMemory};
 
 use crate::cluster::Cluster;
 use cluster_agents::{fresh_agents_open, fresh_records};

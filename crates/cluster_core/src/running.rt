@@ -4,7 +4,7 @@ ghost use Rattle.std.specs.Prelude.{◌≡◌, ◌≢◌, [], IfOk, IfErr, OnOk}
 ghost use Rattle.cluster_agents.specs.Fresh.{fresh_records};
 ghost use Rattle.cluster_core.specs.Safety.{Safe};
 ghost use Rattle.cluster_core.specs.StepRuns.{Passes, Ran};
-ghost use Rattle.messages.specs.declared.steps.fault.ClusterFault.TheVariants.{OutOfMemory};
+ghost use Rattle.messages.specs.declared.steps.ClusterFault.TheVariants.{OutOfMemory};
 
 use crate::cluster::Cluster;
 use crate::fresh::open_fresh;

@@ -5,7 +5,7 @@ use Rattle.std.specs.List.{AllByRecursion as Each}
 use Rattle.std.proofs.lemmas.Bool.{cond_both}
 use Rattle.messages.specs.declared.mail.MasterMail.{MasterMail}
 use Rattle.messages.specs.declared.mail.AgentMail.{AgentMail}
-use Rattle.messages.specs.declared.cause.Cause.{Cause}
+use Rattle.messages.specs.declared.call.Cause.{Cause}
 use Rattle.messages.specs.declared.record.RecordParts.{RecordParts}
 use Rattle.messages.specs.declared.refusal.AgentRefusal.{AgentRefusal}
 use Rattle.messages.specs.declared.refusal.AgentRefusal.TheVariants.{TotalLess}

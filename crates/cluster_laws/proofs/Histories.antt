@@ -2,8 +2,8 @@
 use Rattle.std.proofs.Common.{◌≡◌, suc, List, [], ◌∷◌, ◌++◌, length, length-append, map, Result, Ok, Err, refl, sym, ◌∙◌, subst, arith}
 use Rattle.messages.specs.declared.record.RecordParts.{RecordParts}
 use Rattle.cluster_model.specs.Channels.{World, Happening, open_channel, open_world, after, after_all}
-use Rattle.messages.specs.declared.steps.fault.ClusterFault.{ClusterFault}
-use Rattle.messages.specs.declared.steps.step.Step.{Step}
+use Rattle.messages.specs.declared.steps.ClusterFault.{ClusterFault}
+use Rattle.messages.specs.declared.steps.Step.{Step}
 use Rattle.cluster_model.specs.Openings.{NamesOnce, GoodOpening}
 use Rattle.cluster_model.specs.Steps.{Setup, Done, entry_of, greets_all, open_cluster, opened_over, Marked, step_marked, History, opening, extended, extend_all, history}
 use Rattle.cluster_laws.specs.Items.{names_of, Item, StandIn, items_sent, call_of, new_items}

@@ -14,7 +14,7 @@ use Rattle.messages.specs.declared.task.Booked.{Booked}
 use Rattle.messages.specs.declared.mail.ToAgent.{ToAgent}
 use Rattle.messages.specs.declared.mail.ToMaster.{ToMaster}
 use Rattle.messages.specs.declared.record.RecordedTask.{RecordedTask}
-use Rattle.messages.specs.declared.cause.Cause.TheVariants.{Mail}
+use Rattle.messages.specs.declared.call.Cause.TheVariants.{Mail}
 use Rattle.cluster_model.specs.Channels.{Channel}
 use Rattle.cluster_model.specs.Clusters.{sides_of}
 use Rattle.cluster_model.specs.Openings.{NamesOnce}

@@ -7,16 +7,16 @@ use Rattle.messages.specs.declared.mail.MasterMail.{MasterMail}
 use Rattle.messages.specs.declared.mail.AgentMail.{AgentMail}
 use Rattle.messages.specs.declared.record.RecordParts.{RecordParts}
 use Rattle.cluster_model.specs.Ids.{last_run}
-use Rattle.messages.specs.declared.cause.Cause.{Cause}
+use Rattle.messages.specs.declared.call.Cause.{Cause}
 use Rattle.messages.specs.declared.refusal.AgentRefusal.{AgentRefusal}
 use Rattle.cluster_model.specs.Agents.{Draft, receives_mail, next_of, recovered}
 use Rattle.cluster_model.specs.Sides.{Run, Side, halted, restarted, side_step, SendHello, new_run}
 use Rattle.cluster_model.specs.Channels.{Channel, AgentStep, Draw, DrawMail, Adopt, StopWithout, StopWith, drawn, drawn_mail, adopted, stopped_with, is_own, agent_step, ChannelStep, ByMaster, Receive, ByAgent, received_mail, happens, World, Happening, At, TearDown, Restart, Halt, behind, in_front, at_agent, with_side, after, after_all, open_channel, open_world}
 use Rattle.cluster_model.specs.Masters.{Move, AtSide, TearDownAll, RestartAll, HaltAll, MasterEffect, new_registers}
 use Rattle.cluster_model.specs.Clusters.{Cluster, Post, sides_of, master_of}
-use Rattle.messages.specs.declared.steps.verdict.Sent.TheVariants.{ToMaster as MailToMaster}
-use Rattle.messages.specs.declared.steps.verdict.Verdict.{Verdict}
-use Rattle.messages.specs.declared.steps.verdict.Verdict.TheVariants.{Ok as Fine}
+use Rattle.messages.specs.declared.steps.Sent.TheVariants.{ToMaster as MailToMaster}
+use Rattle.messages.specs.declared.steps.Verdict.{Verdict}
+use Rattle.messages.specs.declared.steps.Verdict.TheVariants.{Ok as Fine}
 use Rattle.cluster_model.specs.Openings.{NamesOnce}
 use Rattle.cluster_model.specs.Steps.{Setup, posts_in, sent_in, sent_between, posts_between, sent_by, posts_by, done, happening, happening_of, effect_of, hello_to, greets_all, master_stops, master_falls, new_master_falls, agent_falls, open_cluster, streams_after}
 use Rattle.cluster_laws.specs.Items.{names_of}

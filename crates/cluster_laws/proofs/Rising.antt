@@ -14,8 +14,8 @@ use Rattle.messages.specs.declared.mail.MasterMail.{MasterMail}
 use Rattle.messages.specs.declared.mail.MasterMail.TheVariants.{Hello, Issued}
 use Rattle.messages.specs.declared.record.RecordParts.{RecordParts}
 use Rattle.messages.specs.declared.record.RecordedTask.{RecordedTask}
-use Rattle.messages.specs.declared.cause.Cause.{Cause}
-use Rattle.messages.specs.declared.cause.Cause.TheVariants.{Start, Mail, Executor, Again}
+use Rattle.messages.specs.declared.call.Cause.{Cause}
+use Rattle.messages.specs.declared.call.Cause.TheVariants.{Start, Mail, Executor, Again}
 use Rattle.messages.specs.Causes.{task_state}
 use Rattle.messages.specs.declared.refusal.AgentRefusal.{AgentRefusal}
 use Rattle.messages.specs.declared.refusal.AgentRefusal.TheVariants.{OldSession, NotNext, NoSuchTask, Ended, NoRoom, UpdatesFull, SessionsSpent}

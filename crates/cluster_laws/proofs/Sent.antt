@@ -6,8 +6,8 @@ use Rattle.messages.specs.declared.mail.MasterMail.{MasterMail}
 use Rattle.messages.specs.declared.mail.AgentMail.{AgentMail}
 use Rattle.cluster_model.specs.Channels.{Channel, World, Happening, after, after_all}
 use Rattle.cluster_model.specs.Clusters.{Post, Down, Up}
-use Rattle.messages.specs.declared.steps.verdict.Sent.{Sent}
-use Rattle.messages.specs.declared.steps.verdict.Sent.TheVariants.{ToAgent as MailToAgent, ToMaster as MailToMaster}
+use Rattle.messages.specs.declared.steps.Sent.{Sent}
+use Rattle.messages.specs.declared.steps.Sent.TheVariants.{ToAgent as MailToAgent, ToMaster as MailToMaster}
 use Rattle.cluster_model.specs.Steps.{places, new_to_agent, new_to_master, sent_in, posts_in, sent_between, posts_between, sent_by, posts_by}
 use Rattle.cluster_model.specs.Openings.{NamesOnce}
 use Rattle.cluster_laws.specs.Items.{names_of, channel_at, to_agent, to_master, down_item, up_item, item_of, Item, Stand, item_sent, items_sent}

@@ -5,10 +5,10 @@ use Rattle.messages.specs.declared.mail.MasterMail.{MasterMail}
 use Rattle.messages.specs.declared.mail.AgentMail.{AgentMail}
 use Rattle.cluster_model.specs.Channels.{Channel}
 use Rattle.cluster_model.specs.Clusters.{Post, Called, Down, Up, Cluster}
-use Rattle.messages.specs.declared.steps.step.Step.{Step}
-use Rattle.messages.specs.declared.steps.step.Step.TheVariants.{Send}
-use Rattle.messages.specs.declared.steps.verdict.Sent.{Sent}
-use Rattle.messages.specs.declared.steps.verdict.Sent.TheVariants.{Call as CallSent, ToAgent as MailToAgent, ToMaster as MailToMaster}
+use Rattle.messages.specs.declared.steps.Step.{Step}
+use Rattle.messages.specs.declared.steps.Step.TheVariants.{Send}
+use Rattle.messages.specs.declared.steps.Sent.{Sent}
+use Rattle.messages.specs.declared.steps.Sent.TheVariants.{Call as CallSent, ToAgent as MailToAgent, ToMaster as MailToMaster}
 use Rattle.cluster_model.specs.Steps.{Done}
 pub use Rattle.cluster_laws.specs.declared.item.Item.{Item}
 use Rattle.cluster_laws.specs.declared.item.Item.TheVariants as items

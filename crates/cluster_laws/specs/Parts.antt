@@ -9,8 +9,8 @@ use Rattle.cluster_model.specs.Sides.{SendHello, restarted, new_run}
 use Rattle.cluster_model.specs.Channels.{Channel, AgentStep, Draw, DrawMail, Adopt, StopWithout, StopWith, Restart, after}
 use Rattle.cluster_model.specs.Masters.{AtSide, MasterEffect, Master, moving, new_registers}
 use Rattle.cluster_model.specs.Clusters.{Cluster}
-use Rattle.messages.specs.declared.steps.verdict.Sent.{Sent}
-use Rattle.messages.specs.declared.steps.verdict.Sent.TheVariants.{ToMaster as MailToMaster}
+use Rattle.messages.specs.declared.steps.Sent.{Sent}
+use Rattle.messages.specs.declared.steps.Sent.TheVariants.{ToMaster as MailToMaster}
 
 -- an agent with its draft
 pub record Part : Type 0 where

@@ -10,7 +10,7 @@ ghost use Rattle.cluster_model.specs.Clusters.{Called, Cluster, sides_of};
 ghost use Rattle.cluster_model.specs.Openings.{GoodOpening, NamesOnce};
 ghost use Rattle.cluster_model.specs.Steps.{Setup, Done, Marked, history, open_cluster, opening, step_marked};
 ghost use Rattle.messages.specs.declared.call.Call.{Call};
-ghost use Rattle.messages.specs.declared.cause.Cause.TheVariants.{Mail};
+ghost use Rattle.messages.specs.declared.call.Cause.TheVariants.{Mail};
 ghost use Rattle.messages.specs.declared.mail.ToAgent.{ToAgent};
 ghost use Rattle.messages.specs.declared.mail.ToMaster.{ToMaster};
 ghost use Rattle.messages.specs.declared.record.RecordParts.{RecordParts};

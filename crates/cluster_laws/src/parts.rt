@@ -6,13 +6,13 @@ ghost use Rattle.cluster_laws.specs.Parts.{IsSilent, anew, from_agent, greeting,
 ghost use Rattle.cluster_model.specs.Agents.{Draft, receives_mail, next_of, recovered};
 ghost use Rattle.cluster_model.specs.Channels.{Adopt, AgentStep, At, ByAgent, Channel, Draw, DrawMail, Receive, StopWith, StopWithout, agent_step, is_own};
 ghost use Rattle.cluster_model.specs.Clusters.{Cluster, master_of};
-ghost use Rattle.messages.specs.declared.steps.verdict.Verdict.{Verdict};
+ghost use Rattle.messages.specs.declared.steps.Verdict.{Verdict};
 ghost use Rattle.cluster_model.specs.Ids.{last_run};
 ghost use Rattle.cluster_model.specs.Masters.{MasterEffect};
 ghost use Rattle.cluster_model.specs.Openings.{NamesOnce};
 ghost use Rattle.cluster_model.specs.Sides.{Side, new_side, restarted};
 ghost use Rattle.cluster_model.specs.Steps.{Setup, agent_falls, done, effect_of, greets_all, happening, master_falls, master_stops, new_master_falls, open_cluster};
-ghost use Rattle.messages.specs.declared.cause.Cause.{Cause};
+ghost use Rattle.messages.specs.declared.call.Cause.{Cause};
 ghost use Rattle.messages.specs.declared.mail.MasterMail.{MasterMail};
 ghost use Rattle.messages.specs.declared.record.RecordParts.{RecordParts};
 

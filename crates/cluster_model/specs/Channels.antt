@@ -7,8 +7,8 @@ use Rattle.quantity.specs.Rows.{amount}
 use Rattle.messages.specs.declared.mail.MasterMail.{MasterMail}
 use Rattle.messages.specs.declared.mail.AgentMail.{AgentMail}
 use Rattle.messages.specs.declared.record.RecordParts.{RecordParts}
-use Rattle.messages.specs.declared.cause.Cause.{Cause}
-use Rattle.messages.specs.declared.cause.Cause.TheVariants.{Start, Mail, Executor, Again}
+use Rattle.messages.specs.declared.call.Cause.{Cause}
+use Rattle.messages.specs.declared.call.Cause.TheVariants.{Start, Mail, Executor, Again}
 use Rattle.messages.specs.declared.refusal.AgentRefusal.{AgentRefusal}
 use Rattle.cluster_model.specs.Agents.{Agent, Draft, live_tasks, receives_mail, next_of, recovered, recovered_from}
 use Rattle.cluster_model.specs.Sides.{Run, Side, SideStep, new_run, new_side, torn_down, received, halted, restarted, side_step}

@@ -7,8 +7,8 @@ use Rattle.cluster_model.specs.Sides.{Side}
 use Rattle.cluster_model.specs.Channels.{Channel, World}
 use Rattle.cluster_model.specs.Events.{Event}
 use Rattle.cluster_model.specs.Masters.{Master, Registers}
-pub use Rattle.messages.specs.declared.entries.entry.Outputs.{Outputs}
-pub use Rattle.messages.specs.declared.entries.entry.Entry.{Entry}
+pub use Rattle.messages.specs.declared.entries.Outputs.{Outputs}
+pub use Rattle.messages.specs.declared.entries.Entry.{Entry}
 
 -- a stream that was ever opened: its events, and how many of them were taken
 pub record Stream : Type 0 where

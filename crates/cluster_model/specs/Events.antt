@@ -3,10 +3,10 @@ use Rattle.std.specs.Prelude.{ℕ, List, codes, Option}
 use Rattle.names_core.specs.Updates as updates
 use Rattle.names_core.specs.declared.state.TaskState.{TaskState}
 use Rattle.messages.specs.declared.task.Offer as mails
-use Rattle.messages.specs.declared.events.offer.SentOffer.{SentOffer}
-pub use Rattle.messages.specs.declared.events.event.Event.{Event}
-pub use Rattle.messages.specs.declared.events.event.Event.TheVariants.{Subscribed, Offers, Rescind, Update, Failure, Error, Heartbeat}
-pub use Rattle.messages.specs.declared.events.stream_event.StreamEvent.{StreamEvent}
+use Rattle.messages.specs.declared.events.SentOffer.{SentOffer}
+pub use Rattle.messages.specs.declared.events.Event.{Event}
+pub use Rattle.messages.specs.declared.events.Event.TheVariants.{Subscribed, Offers, Rescind, Update, Failure, Error, Heartbeat}
+pub use Rattle.messages.specs.declared.events.StreamEvent.{StreamEvent}
 
 -- an offer on an agent
 pub record MadeOffer : Type 0 where

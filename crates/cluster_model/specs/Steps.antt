@@ -6,8 +6,8 @@ use Rattle.messages.specs.declared.call.Call.{Call}
 use Rattle.messages.specs.declared.mail.MasterMail.{MasterMail}
 use Rattle.messages.specs.declared.mail.AgentMail.{AgentMail}
 use Rattle.messages.specs.declared.record.RecordParts.{RecordParts}
-use Rattle.messages.specs.declared.cause.Cause.{Cause}
-use Rattle.messages.specs.declared.cause.Cause.TheVariants as causes
+use Rattle.messages.specs.declared.call.Cause.{Cause}
+use Rattle.messages.specs.declared.call.Cause.TheVariants as causes
 use Rattle.messages.specs.declared.refusal.AgentRefusal.{AgentRefusal}
 use Rattle.messages.specs.declared.refusal.AgentRefusal.TheVariants.{NotForMe}
 use Rattle.messages.specs.declared.refusal.MasterRefusal.{MasterRefusal}
@@ -22,18 +22,18 @@ use Rattle.cluster_model.specs.Calls.{call_effect}
 use Rattle.cluster_model.specs.Mails.{mail_effect, ticked, agent_lost, hung_up}
 use Rattle.cluster_model.specs.Rounds.{allocated}
 use Rattle.cluster_model.specs.Clusters.{Stream, Post, Called, Down, Up, Cluster, Outputs, Entry, master_of, no_outputs}
-use Rattle.messages.specs.declared.steps.step.StepCause.{StepCause}
-use Rattle.messages.specs.declared.steps.step.StepCause.TheVariants.{Start as ByStart, Again as ByAgain, Executor as ByExecutor, Mail as ByMail}
-use Rattle.messages.specs.declared.steps.step.Step.{Step}
-use Rattle.messages.specs.declared.steps.step.Step.TheVariants.{Send, Deliver, Allocate, Tick, LoseAgent, HangUp, Prepare, Commit, StopAgent, StopMaster, Take}
-use Rattle.messages.specs.declared.steps.step.Keep.TheVariants.{Before, After}
-use Rattle.messages.specs.declared.steps.fault.ClusterFault.{ClusterFault}
-use Rattle.messages.specs.declared.steps.fault.ClusterFault.TheVariants.{NoSuchMail, MasterDown, AgentDown, DraftOpen, NoDraft, HistoryFull, TimeBack, NoSuchAgent}
+use Rattle.messages.specs.declared.steps.StepCause.{StepCause}
+use Rattle.messages.specs.declared.steps.StepCause.TheVariants.{Start as ByStart, Again as ByAgain, Executor as ByExecutor, Mail as ByMail}
+use Rattle.messages.specs.declared.steps.Step.{Step}
+use Rattle.messages.specs.declared.steps.Step.TheVariants.{Send, Deliver, Allocate, Tick, LoseAgent, HangUp, Prepare, Commit, StopAgent, StopMaster, Take}
+use Rattle.messages.specs.declared.steps.Keep.TheVariants.{Before, After}
+use Rattle.messages.specs.declared.steps.ClusterFault.{ClusterFault}
+use Rattle.messages.specs.declared.steps.ClusterFault.TheVariants.{NoSuchMail, MasterDown, AgentDown, DraftOpen, NoDraft, HistoryFull, TimeBack, NoSuchAgent}
 use Rattle.messages.specs.Verdicts.{fell}
-use Rattle.messages.specs.declared.steps.verdict.Verdict.{Verdict}
-use Rattle.messages.specs.declared.steps.verdict.Verdict.TheVariants.{Ok as Fine, MasterRefused, AgentRefused, OutOfMemory as Fell}
-use Rattle.messages.specs.declared.steps.verdict.Sent.{Sent}
-use Rattle.messages.specs.declared.steps.verdict.Sent.TheVariants.{Call as CallSent, ToAgent as MailToAgent, ToMaster as MailToMaster}
+use Rattle.messages.specs.declared.steps.Verdict.{Verdict}
+use Rattle.messages.specs.declared.steps.Verdict.TheVariants.{Ok as Fine, MasterRefused, AgentRefused, OutOfMemory as Fell}
+use Rattle.messages.specs.declared.steps.Sent.{Sent}
+use Rattle.messages.specs.declared.steps.Sent.TheVariants.{Call as CallSent, ToAgent as MailToAgent, ToMaster as MailToMaster}
 
 -- what was sent
 

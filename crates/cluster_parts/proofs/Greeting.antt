@@ -2,7 +2,7 @@
 use Rattle.std.proofs.Common.{◌≡◌, ℕ, List, [], ◌∷◌, map, refl, ap, ◌∙◌, bytes_eq}
 use Rattle.std.proofs.lemmas.Bool.{cond_both}
 use Rattle.cluster_model.specs.Clusters.{Cluster, master_of}
-use Rattle.messages.specs.declared.steps.verdict.Sent.TheVariants.{ToAgent as MailToAgent}
+use Rattle.messages.specs.declared.steps.Sent.TheVariants.{ToAgent as MailToAgent}
 use Rattle.cluster_model.specs.Masters.{AtSide, MasterEffect, Master, Moved, after_doing, at_side, at_this_side, move, move_all, moved, past_side, unmoved}
 use Rattle.cluster_model.specs.Sides.{Run, SendHello, Side, side_step}
 use Rattle.cluster_model.specs.Steps.{Effect, done, effect_of, greets_all}

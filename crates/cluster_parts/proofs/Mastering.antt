@@ -7,10 +7,10 @@ use Rattle.messages.specs.declared.refusal.MasterRefusal.{MasterRefusal}
 use Rattle.names_core.specs.Ids.{Numbered}
 use Rattle.cluster_model.specs.Channels.{Channel, with_side}
 use Rattle.cluster_model.specs.Clusters.{Cluster, Stream, master_of}
-use Rattle.messages.specs.declared.steps.verdict.Sent.TheVariants.{ToAgent as MailToAgent}
-use Rattle.messages.specs.declared.steps.verdict.Sent.{Sent}
-use Rattle.messages.specs.declared.steps.step.Step.{Step}
-use Rattle.messages.specs.declared.steps.fault.ClusterFault.{ClusterFault}
+use Rattle.messages.specs.declared.steps.Sent.TheVariants.{ToAgent as MailToAgent}
+use Rattle.messages.specs.declared.steps.Sent.{Sent}
+use Rattle.messages.specs.declared.steps.Step.{Step}
+use Rattle.messages.specs.declared.steps.ClusterFault.{ClusterFault}
 use Rattle.cluster_model.specs.Masters.{MasterEffect, Master, after_doing, moved, refused}
 use Rattle.cluster_model.specs.Sides.{halted}
 use Rattle.cluster_model.specs.Steps.{Setup, Done, History, Marked, answer, extend_all, extended, history, opening, step_marked, done, effect_of, fallen_answer, instead, master_does, master_falls, sent_between, streams_after, with_tick}
@@ -19,14 +19,14 @@ use Rattle.cluster_laws.specs.declared.item.Item.{Item}
 use Rattle.cluster_laws.specs.Items.{StandIn, call_of, items_sent}
 use Rattle.cluster_laws.specs.Parts.{parts_of}
 use Rattle.cluster_laws.specs.Runs.{AreRising, ids_of}
-use Rattle.messages.specs.declared.entries.entry.Outputs.{Outputs}
-use Rattle.messages.specs.declared.steps.verdict.Sent as code
-use Rattle.messages.specs.declared.steps.verdict.Verdict.TheVariants as verdicts
+use Rattle.messages.specs.declared.entries.Outputs.{Outputs}
+use Rattle.messages.specs.declared.steps.Sent as code
+use Rattle.messages.specs.declared.steps.Verdict.TheVariants as verdicts
 use Rattle.master_core.specs.Steps.{Answers, outs_of}
 use Rattle.master_state.specs.declared.fault.MasterFault.{MasterFault}
 use Rattle.master_state.specs.declared.fault.MasterFault.TheVariants as fault
 use Rattle.master_state.specs.declared.state.Outs.{Outs}
-use Rattle.messages.specs.declared.events.stream_event.StreamEvent.{StreamEvent}
+use Rattle.messages.specs.declared.events.StreamEvent.{StreamEvent}
 use Rattle.cluster_channels.specs.Kept.{AreWithin, kept_streams}
 use Rattle.cluster_channels.specs.declared.streams.kept.KeptStream.{KeptStream}
 use Rattle.cluster_channels.specs.Streams.{received, kept_ids}

@@ -8,12 +8,12 @@ use Rattle.messages.specs.declared.record.RecordParts.{RecordParts}
 use Rattle.messages.specs.declared.refusal.MasterRefusal.{MasterRefusal}
 use Rattle.cluster_model.specs.Channels.{At, Channel, Receive}
 use Rattle.cluster_model.specs.Clusters.{Cluster, Up, master_of, sides_of}
-use Rattle.messages.specs.declared.steps.step.Step.TheVariants.{Deliver}
-use Rattle.messages.specs.declared.steps.verdict.Sent.TheVariants.{ToAgent as MailToAgent}
-use Rattle.messages.specs.declared.steps.verdict.Sent.{Sent}
-use Rattle.messages.specs.declared.steps.step.Step.{Step}
-use Rattle.messages.specs.declared.steps.fault.ClusterFault.{ClusterFault}
-use Rattle.messages.specs.declared.steps.fault.ClusterFault.TheVariants.{MasterDown, NoSuchMail}
+use Rattle.messages.specs.declared.steps.Step.TheVariants.{Deliver}
+use Rattle.messages.specs.declared.steps.Sent.TheVariants.{ToAgent as MailToAgent}
+use Rattle.messages.specs.declared.steps.Sent.{Sent}
+use Rattle.messages.specs.declared.steps.Step.{Step}
+use Rattle.messages.specs.declared.steps.ClusterFault.{ClusterFault}
+use Rattle.messages.specs.declared.steps.ClusterFault.TheVariants.{MasterDown, NoSuchMail}
 use Rattle.cluster_model.specs.Mails.{having_received, mail_effect}
 use Rattle.cluster_model.specs.Masters.{MasterEffect, Master, after_doing, moved}
 use Rattle.cluster_model.specs.Openings.{GoodOpening}
@@ -28,11 +28,11 @@ use Rattle.cluster_laws.specs.Items.{StandIn, items_sent}
 use Rattle.cluster_laws.specs.Parts.{parts_of}
 use Rattle.cluster_laws.specs.Premises.{AreRecorded, IsDown, IsUp}
 use Rattle.cluster_laws.specs.Runs.{AreRising, SameRun, ids_of}
-use Rattle.messages.specs.declared.entries.entry.Outputs.{Outputs}
-use Rattle.messages.specs.declared.steps.verdict.Sent as code
-use Rattle.messages.specs.declared.steps.verdict.Verdict.{Verdict}
-use Rattle.messages.specs.declared.steps.verdict.Verdict.TheVariants as verdicts
-use Rattle.messages.specs.declared.steps.fault.ClusterFault.TheVariants as faults
+use Rattle.messages.specs.declared.entries.Outputs.{Outputs}
+use Rattle.messages.specs.declared.steps.Sent as code
+use Rattle.messages.specs.declared.steps.Verdict.{Verdict}
+use Rattle.messages.specs.declared.steps.Verdict.TheVariants as verdicts
+use Rattle.messages.specs.declared.steps.ClusterFault.TheVariants as faults
 use Rattle.messages.specs.Verdicts.{fell}
 use Rattle.master_core.specs.declared.master.ReceivedMail.{ReceivedMail}
 use Rattle.master_core.specs.Steps.{Receives, outs_of}
@@ -41,7 +41,7 @@ use Rattle.cluster_model.specs.Mails.{FitsRecord}
 use Rattle.master_state.specs.declared.fault.MasterFault.{MasterFault}
 use Rattle.master_state.specs.declared.fault.MasterFault.TheVariants as fault
 use Rattle.master_state.specs.declared.state.Outs.{Outs}
-use Rattle.messages.specs.declared.events.stream_event.StreamEvent.{StreamEvent}
+use Rattle.messages.specs.declared.events.StreamEvent.{StreamEvent}
 use Rattle.names_core.specs.Ids.{Numbered}
 use Rattle.cluster_model.specs.Fits.{MailFitsAt}
 use Rattle.cluster_channels.specs.Kept.{AreWithin, kept_streams}

@@ -7,10 +7,10 @@ use Rattle.names_core.specs.Ids.{Numbered}
 use Rattle.master_agents.specs.declared.config.ConfiguredAgent.{ConfiguredAgent}
 use Rattle.cluster_model.specs.Channels.{Channel, Halt, Restart, after, open_channel, with_side}
 use Rattle.cluster_model.specs.Clusters.{Cluster, Stream, master_of, sides_of}
-use Rattle.messages.specs.declared.steps.verdict.Sent.TheVariants.{ToAgent as MailToAgent}
-use Rattle.messages.specs.declared.steps.verdict.Sent.{Sent}
-use Rattle.messages.specs.declared.steps.step.Step.TheVariants.{StopMaster}
-use Rattle.messages.specs.declared.steps.verdict.Verdict.TheVariants.{Ok as Fine}
+use Rattle.messages.specs.declared.steps.Sent.TheVariants.{ToAgent as MailToAgent}
+use Rattle.messages.specs.declared.steps.Sent.{Sent}
+use Rattle.messages.specs.declared.steps.Step.TheVariants.{StopMaster}
+use Rattle.messages.specs.declared.steps.Verdict.TheVariants.{Ok as Fine}
 use Rattle.cluster_model.specs.Events.{StreamEvent}
 use Rattle.cluster_model.specs.Ids.{last_run}
 use Rattle.cluster_model.specs.Masters.{Master, moved, new_registers}
@@ -23,8 +23,8 @@ use Rattle.cluster_laws.specs.declared.item.Item.{Item}
 use Rattle.cluster_laws.specs.Items.{StandIn, items_sent}
 use Rattle.cluster_laws.specs.Parts.{AreAgentsOf, anew, greeting, next_master, parts_of}
 use Rattle.cluster_laws.specs.Runs.{AreRising, ids_of}
-use Rattle.messages.specs.declared.steps.verdict.Sent as code
-use Rattle.messages.specs.declared.steps.verdict.Verdict.TheVariants as verdicts
+use Rattle.messages.specs.declared.steps.Sent as code
+use Rattle.messages.specs.declared.steps.Verdict.TheVariants as verdicts
 use Rattle.master_core.specs.Steps.{outs_of}
 use Rattle.master_state.specs.declared.fault.MasterFault.{MasterFault}
 use Rattle.master_state.specs.declared.fault.MasterFault.TheVariants as fault

@@ -4,10 +4,10 @@ use Rattle.messages.specs.declared.call.Call.{Call}
 use Rattle.messages.specs.declared.record.RecordParts.{RecordParts}
 use Rattle.names_core.specs.Ids.{Numbered}
 use Rattle.cluster_model.specs.Clusters.{Cluster, Stream}
-use Rattle.messages.specs.declared.steps.step.Step.TheVariants.{Send, Take}
-use Rattle.messages.specs.declared.steps.step.Step.{Step}
-use Rattle.messages.specs.declared.steps.fault.ClusterFault.TheVariants.{NoSuchMail}
-use Rattle.messages.specs.declared.steps.verdict.Verdict.TheVariants.{Ok as Fine}
+use Rattle.messages.specs.declared.steps.Step.TheVariants.{Send, Take}
+use Rattle.messages.specs.declared.steps.Step.{Step}
+use Rattle.messages.specs.declared.steps.ClusterFault.TheVariants.{NoSuchMail}
+use Rattle.messages.specs.declared.steps.Verdict.TheVariants.{Ok as Fine}
 use Rattle.cluster_model.specs.Events.{Event}
 use Rattle.cluster_model.specs.Masters.{Master}
 use Rattle.cluster_model.specs.Steps.{Setup, Done, Marked, answer, history, sends, takes_event, takes_one}
@@ -15,10 +15,10 @@ use Rattle.cluster_laws.specs.declared.item.Item.{Item}
 use Rattle.cluster_laws.specs.declared.item.Item.TheVariants as items
 use Rattle.cluster_laws.specs.Items.{StandIn}
 use Rattle.cluster_laws.specs.Runs.{AreRising, ids_of}
-use Rattle.messages.specs.declared.entries.entry.Outputs.{Outputs}
-use Rattle.messages.specs.declared.steps.verdict.Sent as entries_so
-use Rattle.messages.specs.declared.steps.verdict.Sent.TheVariants as entries
-use Rattle.messages.specs.declared.steps.verdict.Verdict.TheVariants as verdicts
+use Rattle.messages.specs.declared.entries.Outputs.{Outputs}
+use Rattle.messages.specs.declared.steps.Sent as entries_so
+use Rattle.messages.specs.declared.steps.Sent.TheVariants as entries
+use Rattle.messages.specs.declared.steps.Verdict.TheVariants as verdicts
 use Rattle.cluster_channels.specs.Kept.{AreWithin, kept_streams, untaken}
 use Rattle.cluster_channels.specs.Streams.{next_on, taken}
 use Rattle.cluster_channels.specs.declared.streams.kept.KeptStream.{KeptStream}

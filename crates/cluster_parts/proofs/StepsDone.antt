@@ -6,9 +6,9 @@ use Rattle.names_core.specs.Ids.{Numbered}
 use Rattle.cluster_model.specs.Calls.{call_effect}
 use Rattle.cluster_model.specs.Channels.{Channel}
 use Rattle.cluster_model.specs.Clusters.{Called, Cluster, Stream, master_of}
-use Rattle.messages.specs.declared.steps.step.Step.TheVariants.{Allocate, Deliver, HangUp, LoseAgent, Tick}
-use Rattle.messages.specs.declared.steps.fault.ClusterFault.{ClusterFault}
-use Rattle.messages.specs.declared.steps.fault.ClusterFault.TheVariants.{MasterDown, TimeBack}
+use Rattle.messages.specs.declared.steps.Step.TheVariants.{Allocate, Deliver, HangUp, LoseAgent, Tick}
+use Rattle.messages.specs.declared.steps.ClusterFault.{ClusterFault}
+use Rattle.messages.specs.declared.steps.ClusterFault.TheVariants.{MasterDown, TimeBack}
 use Rattle.cluster_model.specs.Mails.{agent_lost, hung_up, ticked}
 use Rattle.names_core.specs.Weights.{RoleWeight}
 use Rattle.cluster_model.specs.Masters.{Master}

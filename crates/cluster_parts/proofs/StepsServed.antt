@@ -7,17 +7,17 @@ use Rattle.messages.specs.declared.mail.AgentMail.{AgentMail}
 use Rattle.names_core.specs.Ids.{Numbered}
 use Rattle.cluster_model.specs.Mails.{ticked}
 use Rattle.cluster_model.specs.Clusters.{Called, Cluster, Down, Post, Stream, Up, master_of}
-use Rattle.messages.specs.declared.steps.step.Step.TheVariants.{Deliver, HangUp, LoseAgent, Tick}
-use Rattle.messages.specs.declared.steps.step.Step.{Step}
-use Rattle.messages.specs.declared.steps.fault.ClusterFault.{ClusterFault}
-use Rattle.messages.specs.declared.steps.fault.ClusterFault.TheVariants.{MasterDown, NoSuchAgent, NoSuchMail, TimeBack}
+use Rattle.messages.specs.declared.steps.Step.TheVariants.{Deliver, HangUp, LoseAgent, Tick}
+use Rattle.messages.specs.declared.steps.Step.{Step}
+use Rattle.messages.specs.declared.steps.ClusterFault.{ClusterFault}
+use Rattle.messages.specs.declared.steps.ClusterFault.TheVariants.{MasterDown, NoSuchAgent, NoSuchMail, TimeBack}
 use Rattle.cluster_model.specs.Channels.{Channel}
 use Rattle.cluster_model.specs.Masters.{MasterEffect, Master}
 use Rattle.cluster_model.specs.Steps.{Done, answer, at_channel, channel_of, delivers, delivers_up, hangs_up, loses_agent, master_does, master_receives, post_at, stream_at, ticks_at, with_master, with_tick}
 use Rattle.cluster_laws.specs.declared.item.Item.{Item}
 use Rattle.cluster_laws.specs.declared.item.Item.TheVariants as sent_items
 use Rattle.cluster_laws.specs.Items.{StandIn}
-use Rattle.messages.specs.declared.steps.fault.ClusterFault.TheVariants as faults
+use Rattle.messages.specs.declared.steps.ClusterFault.TheVariants as faults
 use Rattle.cluster_laws.specs.Runs.{AreRising}
 use Rattle.master_core.specs.Steps.{Answers}
 use Rattle.master_state.specs.declared.fault.MasterFault.{MasterFault}

@@ -1,9 +1,9 @@
 -- Why an agent receives no cause.
 use Rattle.std.specs.Prelude.{◌≡◌, ◌⊎◌, ℕ, Bool, true, List, Err}
 use Rattle.cluster_laws.specs.declared.item.Item.{Item}
-use Rattle.messages.specs.declared.steps.fault.ClusterFault.{ClusterFault}
-use Rattle.messages.specs.declared.steps.fault.ClusterFault.TheVariants.{NoSuchMail}
-use Rattle.messages.specs.declared.steps.step.StepCause.{StepCause}
+use Rattle.messages.specs.declared.steps.ClusterFault.{ClusterFault}
+use Rattle.messages.specs.declared.steps.ClusterFault.TheVariants.{NoSuchMail}
+use Rattle.messages.specs.declared.steps.StepCause.{StepCause}
 use Rattle.cluster_agents.specs.Causes.{Causes, cause_due}
 use Rattle.cluster_agents.specs.Handing.{is_withheld}
 

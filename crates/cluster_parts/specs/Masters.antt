@@ -1,11 +1,11 @@
 -- What represents the master's part of a state: the master, all that was sent, and the streams.
 use Rattle.std.specs.Prelude.{◌≡◌, ◌⊎◌, ◌++◌, ℕ, if◌then◌else◌, List, [], map, Option, Some, None, Result, Ok, Err}
-use Rattle.messages.specs.declared.events.event.Event.{Event}
+use Rattle.messages.specs.declared.events.Event.{Event}
 use Rattle.names_core.specs.Ids.{Numbered}
 use Rattle.messages.specs.declared.mail.ToAgent.{ToAgent}
 use Rattle.messages.specs.declared.refusal.MasterRefusal.{MasterRefusal}
 use Rattle.cluster_model.specs.Clusters.{Cluster, master_of}
-use Rattle.messages.specs.declared.steps.step.Step.{Step}
+use Rattle.messages.specs.declared.steps.Step.{Step}
 use Rattle.cluster_model.specs.Masters.{MasterEffect, Master}
 use Rattle.cluster_model.specs.Steps.{Done, answer, fallen_answer, instead, master_does, master_falls, with_tick}
 use Rattle.cluster_laws.specs.declared.item.Item.{Item}
@@ -13,10 +13,10 @@ use Rattle.cluster_laws.specs.declared.item.Item.TheVariants as items
 use Rattle.cluster_laws.specs.Items.{StandIn}
 use Rattle.cluster_laws.specs.Parts.{parts_of}
 use Rattle.cluster_laws.specs.Runs.{KeepsRun, RefusesAlone}
-use Rattle.messages.specs.declared.entries.entry.Outputs.{Outputs}
-use Rattle.messages.specs.declared.steps.verdict.Sent.{Sent}
-use Rattle.messages.specs.declared.steps.verdict.Sent.TheVariants as sent
-use Rattle.messages.specs.declared.steps.verdict.Verdict.TheVariants as verdicts
+use Rattle.messages.specs.declared.entries.Outputs.{Outputs}
+use Rattle.messages.specs.declared.steps.Sent.{Sent}
+use Rattle.messages.specs.declared.steps.Sent.TheVariants as sent
+use Rattle.messages.specs.declared.steps.Verdict.TheVariants as verdicts
 use Rattle.messages.specs.Verdicts.{fell}
 use Rattle.master_state.specs.declared.fault.MasterFault.{MasterFault}
 use Rattle.master_state.specs.declared.fault.MasterFault.TheVariants as fault

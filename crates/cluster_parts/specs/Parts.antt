@@ -3,13 +3,13 @@ use Rattle.std.specs.Prelude.{◌≡◌, ℕ, Bool, if◌then◌else◌, List, O
 use Rattle.messages.specs.declared.record.RecordParts.{RecordParts}
 use Rattle.names_core.specs.Weights.{RoleWeight}
 use Rattle.cluster_model.specs.Clusters.{Cluster}
-use Rattle.messages.specs.declared.steps.step.Step.{Step}
-use Rattle.messages.specs.declared.steps.step.Step.TheVariants.{Prepare}
+use Rattle.messages.specs.declared.steps.Step.{Step}
+use Rattle.messages.specs.declared.steps.Step.TheVariants.{Prepare}
 use Rattle.cluster_model.specs.Steps.{Done, answer, fallen_answer}
 use Rattle.cluster_laws.specs.Parts.{AreAgentsOf}
 use Rattle.messages.specs.Verdicts.{fell}
-use Rattle.messages.specs.declared.steps.verdict.Verdict.{Verdict}
-use Rattle.messages.specs.declared.steps.fault.ClusterFault.{ClusterFault}
+use Rattle.messages.specs.declared.steps.Verdict.{Verdict}
+use Rattle.messages.specs.declared.steps.ClusterFault.{ClusterFault}
 use Rattle.cluster_agents.specs.Agents.{KeptAgent}
 use Rattle.cluster_agents.specs.Causes.{record_prepared}
 use Rattle.cluster_agents.specs.Handing.{MayRefuse}

@@ -7,10 +7,10 @@ use Rattle.cluster_model.specs.Clusters.{Cluster}
 use Rattle.cluster_model.specs.Masters.{Master}
 use Rattle.cluster_laws.specs.declared.item.Item.{Item}
 use Rattle.cluster_laws.specs.declared.item.Item.TheVariants as items
-use Rattle.messages.specs.declared.steps.verdict.Verdict.{Verdict}
-use Rattle.messages.specs.declared.steps.verdict.Verdict.TheVariants as verdicts
-use Rattle.messages.specs.declared.steps.fault.ClusterFault.{ClusterFault}
-use Rattle.messages.specs.declared.steps.fault.ClusterFault.TheVariants.{NoSuchMail, MasterDown, AgentDown, DraftOpen, NoDraft, HistoryFull, TimeBack, NoSuchAgent, OutOfMemory}
+use Rattle.messages.specs.declared.steps.Verdict.{Verdict}
+use Rattle.messages.specs.declared.steps.Verdict.TheVariants as verdicts
+use Rattle.messages.specs.declared.steps.ClusterFault.{ClusterFault}
+use Rattle.messages.specs.declared.steps.ClusterFault.TheVariants.{NoSuchMail, MasterDown, AgentDown, DraftOpen, NoDraft, HistoryFull, TimeBack, NoSuchAgent, OutOfMemory}
 use Rattle.master_core.specs.declared.master.ReceivedMail.{ReceivedMail}
 use Rattle.master_state.specs.declared.fault.MasterFault.{MasterFault}
 use Rattle.cluster_channels.specs.declared.streams.kept.KeptStream.{KeptStream}

@@ -1,7 +1,7 @@
 -- The master stops, and a new one begins the next run.
 use Rattle.std.specs.Prelude.{◌≡◌, ◌+◌, ℕ, nat_lt, if◌then◌else◌, List, Option, Some, None, Ok}
 use Rattle.cluster_model.specs.Clusters.{Cluster}
-use Rattle.messages.specs.declared.steps.step.Step.TheVariants.{StopMaster}
+use Rattle.messages.specs.declared.steps.Step.TheVariants.{StopMaster}
 use Rattle.cluster_model.specs.Ids.{last_run}
 use Rattle.cluster_model.specs.Masters.{Master}
 use Rattle.cluster_model.specs.Steps.{Done, answer, fallen_answer}

@@ -3,7 +3,7 @@
 ghost use Rattle.std.specs.Prelude.{◌≡◌, length, IfOk, IfErr, OnErr};
 ghost use Rattle.cluster_parts.specs.Parts.{AllRefuse, AllTake, Same};
 ghost use Rattle.cluster_parts.specs.Posts.{Grows};
-ghost use Rattle.messages.specs.declared.steps.step.Step.TheVariants.{Commit};
+ghost use Rattle.messages.specs.declared.steps.Step.TheVariants.{Commit};
 
 use crate::parts::ClusterState;
 use crate::places::found_up;

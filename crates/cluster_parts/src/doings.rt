@@ -5,7 +5,7 @@ ghost use Rattle.cluster_parts.specs.Masters.{Does};
 ghost use Rattle.cluster_model.specs.Calls.{call_effect};
 ghost use Rattle.cluster_model.specs.Channels.{Channel};
 ghost use Rattle.cluster_model.specs.Clusters.{Called, Cluster, Stream, master_of};
-ghost use Rattle.messages.specs.declared.steps.step.Step.TheVariants.{Allocate, Deliver, HangUp, LoseAgent, Tick};
+ghost use Rattle.messages.specs.declared.steps.Step.TheVariants.{Allocate, Deliver, HangUp, LoseAgent, Tick};
 ghost use Rattle.cluster_model.specs.Mails.{hung_up, ticked};
 ghost use Rattle.names_core.specs.Weights.{RoleWeight};
 ghost use Rattle.cluster_model.specs.Rounds.{allocated};

@@ -8,7 +8,7 @@ ghost use Rattle.cluster_laws.specs.Items.{StandIn};
 ghost use Rattle.cluster_laws.specs.Runs.{AreRising};
 ghost use Rattle.cluster_laws.specs.declared.item.Item.{Item};
 ghost use Rattle.cluster_model.specs.Clusters.{Cluster, master_of};
-ghost use Rattle.messages.specs.declared.steps.step.Step.{Step};
+ghost use Rattle.messages.specs.declared.steps.Step.{Step};
 ghost use Rattle.cluster_model.specs.Masters.{MasterEffect, Master};
 ghost use Rattle.master_core.specs.Steps.{Answers};
 ghost use Rattle.master_state.specs.declared.fault.MasterFault.{MasterFault};

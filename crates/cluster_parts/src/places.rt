@@ -3,8 +3,8 @@
 ghost use Rattle.std.specs.Prelude.{◌≡◌, ◌<◌, false, length, slice_get, None, Some, IfOk, IfErr, IfSome};
 ghost use Rattle.cluster_agents.specs.Agents.{place_in};
 ghost use Rattle.cluster_parts.specs.Parts.{AgentsRefuse};
-ghost use Rattle.messages.specs.declared.steps.step.Step.TheVariants.{Commit, Prepare};
-ghost use Rattle.messages.specs.declared.steps.step.StepCause.{StepCause};
+ghost use Rattle.messages.specs.declared.steps.Step.TheVariants.{Commit, Prepare};
+ghost use Rattle.messages.specs.declared.steps.StepCause.{StepCause};
 
 use cluster_agents::{ClusterAgent, commits_are_made, found, prepares_are_made};
 use messages::ClusterFault;

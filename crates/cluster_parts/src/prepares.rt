@@ -5,7 +5,7 @@ ghost use Rattle.cluster_agents.specs.Causes.{cause_due};
 ghost use Rattle.cluster_agents.specs.Handing.{is_withheld};
 ghost use Rattle.cluster_parts.specs.Handing.{IsNotHanded};
 ghost use Rattle.cluster_parts.specs.Parts.{AllMayRefuse, AllTake, AreParts, Same};
-ghost use Rattle.messages.specs.declared.steps.step.Step.TheVariants.{Prepare};
+ghost use Rattle.messages.specs.declared.steps.Step.TheVariants.{Prepare};
 
 use crate::masters::MasterAndChannels;
 use crate::parts::ClusterState;

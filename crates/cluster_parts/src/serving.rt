@@ -6,7 +6,7 @@ ghost use Rattle.cluster_agents.specs.Causes.{item_at};
 ghost use Rattle.cluster_parts.specs.Parts.{AllRefuse, AllTake, AllTakeBy, AreParts, ArePartsBy, Same};
 ghost use Rattle.cluster_parts.specs.Posts.{Grows};
 ghost use Rattle.cluster_laws.specs.declared.item.Item.TheVariants as sent;
-ghost use Rattle.messages.specs.declared.steps.step.Step.TheVariants.{Allocate, Deliver, HangUp, LoseAgent, Tick};
+ghost use Rattle.messages.specs.declared.steps.Step.TheVariants.{Allocate, Deliver, HangUp, LoseAgent, Tick};
 
 use crate::doings::masters_do_their_steps;
 use crate::master_laws::answers_are_made;

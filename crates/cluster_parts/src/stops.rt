@@ -2,8 +2,8 @@
 
 ghost use Rattle.std.specs.Prelude.{◌≡◌, IfOk, IfErr, OnErr};
 ghost use Rattle.cluster_parts.specs.Parts.{AllRefuse, AllTake, Same};
-ghost use Rattle.messages.specs.declared.steps.step.Step.TheVariants.{StopAgent};
-ghost use Rattle.messages.specs.declared.steps.step.Keep.TheVariants.{After, Before};
+ghost use Rattle.messages.specs.declared.steps.Step.TheVariants.{StopAgent};
+ghost use Rattle.messages.specs.declared.steps.Keep.TheVariants.{After, Before};
 
 use crate::parts::ClusterState;
 use cluster_agents::{StepOutcome, ends_with, found, stops_are_made};

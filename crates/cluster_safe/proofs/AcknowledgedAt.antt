@@ -20,8 +20,8 @@ use Rattle.cluster_model.specs.Agents.{Draft, has_ended, is_task, stated, acknow
 use Rattle.cluster_model.specs.Sides.{Run, Side, shut, last_session}
 use Rattle.cluster_model.specs.Channels.{Channel, Draw, DrawMail, Adopt, StopWithout, StopWith, is_own, drawn, drawn_mail, adopted, stopped_with, ChannelStep, ByMaster, Receive, ByAgent, received_mail, happens, World, Happening, At, TearDown, Restart, Halt, behind, in_front, at_agent, with_side, after, after_all, open_world}
 use Rattle.cluster_model.specs.Openings.{GoodOpening, recorded_jobs, KeysOnce}
-use Rattle.messages.specs.declared.steps.step.Step.{Step}
-use Rattle.messages.specs.declared.steps.fault.ClusterFault.{ClusterFault}
+use Rattle.messages.specs.declared.steps.Step.{Step}
+use Rattle.messages.specs.declared.steps.ClusterFault.{ClusterFault}
 use Rattle.cluster_model.specs.Steps.{Setup, Done, History, Marked, step_marked, extended, extend_all, history, opening, hello_to}
 use Rattle.cluster_model.specs.Clusters.{Post}
 use Rattle.cluster_safe.specs.Acknowledged.{WasSent, WasCounted, recorded_tasks}

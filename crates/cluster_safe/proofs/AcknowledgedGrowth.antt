@@ -15,8 +15,8 @@ use Rattle.messages.specs.declared.record.RecordedTask.{RecordedTask}
 use Rattle.messages.specs.declared.mail.Command.{Command}
 use Rattle.messages.specs.declared.mail.Command.TheVariants.{Launch, Kill, Ack, EndFramework}
 use Rattle.messages.specs.declared.mail.MasterMail.{MasterMail}
-use Rattle.messages.specs.declared.steps.step.Step.{Step}
-use Rattle.messages.specs.declared.steps.fault.ClusterFault.{ClusterFault}
+use Rattle.messages.specs.declared.steps.Step.{Step}
+use Rattle.messages.specs.declared.steps.ClusterFault.{ClusterFault}
 use Rattle.cluster_model.specs.Agents.{Agent, has_ended, is_task, stated, acknowledged, launched_task, tasks_after}
 use Rattle.cluster_model.specs.Channels.{Channel, World, Happening, after, after_all, open_channel, open_world}
 use Rattle.cluster_model.specs.Openings.{GoodOpening, recorded_jobs, KeysOnce, NamesOnce}

@@ -15,8 +15,8 @@ use Rattle.cluster_model.specs.Channels.{Channel, ByMaster, Receive, by_master, 
 use Rattle.cluster_model.specs.Masters.{Move, AtSide, TearDownAll, RestartAll, HaltAll, MasterEffect, Moved, at_side, move, move_all, unmoved, moved, after_doing}
 use Rattle.cluster_model.specs.Mails.{receive_at, having_received}
 use Rattle.cluster_model.specs.Clusters.{Cluster, sides_of, master_of}
-use Rattle.messages.specs.declared.steps.verdict.Sent.{Sent}
-use Rattle.messages.specs.declared.steps.verdict.Sent.TheVariants.{ToAgent as MailToAgent}
+use Rattle.messages.specs.declared.steps.Sent.{Sent}
+use Rattle.messages.specs.declared.steps.Sent.TheVariants.{ToAgent as MailToAgent}
 use Rattle.cluster_model.specs.Steps.{sent_in, sent_between, sent_by, done, happening_of, effect_of, channel_of}
 use Rattle.cluster_safe.proofs.Origins.{untouched_issue, untouched_all}
 

@@ -18,7 +18,7 @@ use Rattle.names_core.specs.Weights.{RoleWeight}
 use Rattle.cluster_model.specs.Ids.{last_number}
 use Rattle.cluster_model.specs.Sides.{Side, opens, SendKill, SendAck, SendEnd, SendHello, Lose}
 use Rattle.cluster_model.specs.Events.{MadeOffer, Event, StreamEvent, failover_error, offer_of, update_event}
-use Rattle.messages.specs.declared.events.event.Event.TheVariants as events
+use Rattle.messages.specs.declared.events.Event.TheVariants as events
 use Rattle.cluster_model.specs.Masters.{Framework, Registers, Master, Move, AtSide, TearDownAll, MasterEffect, nothing, refused, saying, moving, moved, framework_of, is_torn, with_framework, on_stream, stream_of, events_to, events_to_all, Placed, all_booked, put_placed, held_among, held, is_of, withdraws, without_filters_on, side_of, has_numbers, may_have_numbers}
 use Rattle.cluster_model.specs.Calls.{frameworks_limit, new_stream, to_list, subscribed, removed, resubscribed, is_unassigned, sides_with_tasks, on_teardown, answers, answers_held, Given, good_side, given_by, Accepting, is_covered, launching, answering, accepts_as, accepts_one, accepts_all, passes_limits, accepted_as, accepted_from, on_accept, on_decline, on_revive, on_suppress, commanding, on_kill, is_last_received, on_acknowledge, is_live_of, is_awaited, reconciles_as, reconciles, on_reconcile, is_stream, on_its_stream, by_known, call_effect}
 use Rattle.cluster_model.specs.Mails.{judged, rescinds, loses, is_reported, session_opens, news_of, goes_with, mailed_as, mail_effect, is_due, beats, ticked, agent_lost, hung_up_by, hung_up}

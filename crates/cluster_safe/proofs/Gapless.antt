@@ -17,11 +17,11 @@ use Rattle.messages.specs.declared.call.Call.TheVariants.{Subscribe, Teardown, A
 use Rattle.messages.specs.declared.call.Call.TheVariants as calls
 use Rattle.cluster_model.specs.Channels.{Channel, World, Happening, after_all, open_channel, open_world}
 use Rattle.cluster_model.specs.Clusters.{Post, Called, Down, Up, Entry}
-use Rattle.messages.specs.declared.steps.step.Step.{Step}
-use Rattle.messages.specs.declared.steps.step.Step.TheVariants.{Send}
-use Rattle.messages.specs.declared.steps.fault.ClusterFault.{ClusterFault}
+use Rattle.messages.specs.declared.steps.Step.{Step}
+use Rattle.messages.specs.declared.steps.Step.TheVariants.{Send}
+use Rattle.messages.specs.declared.steps.ClusterFault.{ClusterFault}
 use Rattle.cluster_model.specs.Events.{Event, StreamEvent}
-use Rattle.messages.specs.declared.events.event.Event.TheVariants as events
+use Rattle.messages.specs.declared.events.Event.TheVariants as events
 use Rattle.cluster_model.specs.Openings.{GoodOpening, recorded_jobs}
 use Rattle.cluster_model.specs.Steps.{Setup, Done, History, Marked, step_marked, extended, extend_all, history, opening, hello_to}
 use Rattle.cluster_safe.specs.Acknowledged.{Names, WasSent, WasCounted, recorded_tasks}

@@ -21,10 +21,10 @@ use Rattle.messages.specs.declared.task.Offer.{Offer}
 use Rattle.cluster_model.specs.Calls.{good_side, given_by, passes_limits, accepts_all, accepted_from, on_accept, is_stream, on_its_stream, by_known, call_effect}
 use Rattle.cluster_model.specs.Channels.{Channel, ChannelStep, ByMaster, Receive, ByAgent, received_mail, happens, World, Happening, At, TearDown, Restart, Halt, at_agent, with_side, after, after_all}
 use Rattle.cluster_model.specs.Clusters.{Cluster, sides_of, master_of, Called}
-use Rattle.messages.specs.declared.steps.step.Step.TheVariants.{Deliver}
-use Rattle.messages.specs.declared.steps.fault.ClusterFault.{ClusterFault}
-use Rattle.messages.specs.declared.steps.fault.ClusterFault.TheVariants.{MasterDown, HistoryFull}
-use Rattle.messages.specs.declared.steps.verdict.Verdict.TheVariants.{Ok as Fine}
+use Rattle.messages.specs.declared.steps.Step.TheVariants.{Deliver}
+use Rattle.messages.specs.declared.steps.ClusterFault.{ClusterFault}
+use Rattle.messages.specs.declared.steps.ClusterFault.TheVariants.{MasterDown, HistoryFull}
+use Rattle.messages.specs.declared.steps.Verdict.TheVariants.{Ok as Fine}
 use Rattle.cluster_model.specs.Ids.{first_of_run, is_among, is_empty, is_repeated, last_number}
 use Rattle.cluster_model.specs.Masters.{Framework, Master, MasterEffect, refused, framework_of, is_torn, withdraws_on}
 use Rattle.cluster_model.specs.Openings.{NamesOnce}

@@ -18,7 +18,7 @@ use Rattle.messages.specs.declared.record.RecordedTask.{RecordedTask}
 use Rattle.messages.specs.declared.refusal.AgentRefusal.{AgentRefusal}
 use Rattle.messages.specs.declared.refusal.MasterRefusal.{MasterRefusal}
 use Rattle.messages.specs.declared.call.Call.{Call}
-use Rattle.messages.specs.declared.cause.Cause.TheVariants.{Start, Executor, Again}
+use Rattle.messages.specs.declared.call.Cause.TheVariants.{Start, Executor, Again}
 use Rattle.messages.specs.Causes.{task_state}
 use Rattle.messages.specs.declared.refusal.AgentRefusal.TheVariants.{NotForMe, OldSession, NoSuchTask, Ended, NoRoom, UpdatesFull, SessionsSpent, TotalLess}
 use Rattle.stream_core.specs.Updates.{is_full}
@@ -28,21 +28,21 @@ use Rattle.cluster_model.specs.Sides.{Run, Side}
 use Rattle.cluster_model.specs.Channels.{Channel, AgentStep, Draw, DrawMail, Adopt, StopWithout, StopWith, Receive, ByAgent, World, Happening, At, Restart, Halt, after, after_all, open_channel, open_world, AllFit}
 use Rattle.cluster_model.specs.Openings.{recorded_jobs, KeysOnce, GoodOpening}
 use Rattle.cluster_model.specs.Events.{Event, StreamEvent}
-use Rattle.messages.specs.declared.events.event.Event.TheVariants as events
+use Rattle.messages.specs.declared.events.Event.TheVariants as events
 use Rattle.cluster_model.specs.Masters.{Framework, Master, new_registers, MasterEffect, framework_of, Placed, placed_on, all_booked, is_task_of}
 use Rattle.cluster_model.specs.Calls.{is_last_received, call_effect}
 use Rattle.cluster_model.specs.Mails.{mail_effect, ticked, agent_lost, hung_up}
 use Rattle.cluster_model.specs.Rounds.{allocated}
 use Rattle.cluster_model.specs.Clusters.{Stream, Post, Called, Down, Up, Cluster, sides_of, master_of, Entry}
-use Rattle.messages.specs.declared.steps.step.StepCause.{StepCause}
-use Rattle.messages.specs.declared.steps.step.StepCause.TheVariants.{Start as ByStart, Again as ByAgain, Executor as ByExecutor, Mail as ByMail}
-use Rattle.messages.specs.declared.steps.step.Step.{Step}
-use Rattle.messages.specs.declared.steps.step.Step.TheVariants.{Send, Deliver, Allocate, Tick, LoseAgent, HangUp, Prepare, Commit, StopAgent, StopMaster, Take}
-use Rattle.messages.specs.declared.steps.step.Keep.TheVariants as keep
-use Rattle.messages.specs.declared.steps.fault.ClusterFault.{ClusterFault}
-use Rattle.messages.specs.declared.steps.fault.ClusterFault.TheVariants.{MasterDown, AgentDown, DraftOpen, NoDraft, HistoryFull, TimeBack}
-use Rattle.messages.specs.declared.steps.verdict.Verdict.{Verdict}
-use Rattle.messages.specs.declared.steps.verdict.Verdict.TheVariants.{Ok as Fine, MasterRefused, AgentRefused, OutOfMemory as Fell}
+use Rattle.messages.specs.declared.steps.StepCause.{StepCause}
+use Rattle.messages.specs.declared.steps.StepCause.TheVariants.{Start as ByStart, Again as ByAgain, Executor as ByExecutor, Mail as ByMail}
+use Rattle.messages.specs.declared.steps.Step.{Step}
+use Rattle.messages.specs.declared.steps.Step.TheVariants.{Send, Deliver, Allocate, Tick, LoseAgent, HangUp, Prepare, Commit, StopAgent, StopMaster, Take}
+use Rattle.messages.specs.declared.steps.Keep.TheVariants as keep
+use Rattle.messages.specs.declared.steps.ClusterFault.{ClusterFault}
+use Rattle.messages.specs.declared.steps.ClusterFault.TheVariants.{MasterDown, AgentDown, DraftOpen, NoDraft, HistoryFull, TimeBack}
+use Rattle.messages.specs.declared.steps.Verdict.{Verdict}
+use Rattle.messages.specs.declared.steps.Verdict.TheVariants.{Ok as Fine, MasterRefused, AgentRefused, OutOfMemory as Fell}
 use Rattle.cluster_model.specs.Steps.{Setup, posts_by, Effect, Done, done, entry_of, does, happening, verdict_of, effect_of, master_does, master_receives, channel_of, delivers_up, delivers, post_at, with_tick, ticks_at, stream_at, hangs_up, loses_agent, hello_to, drafts, draws_mail_at, draws_mail, prepares, commits, up_again, stops, with_master, at_channel, is_fallen, if_up, by_draft, without_draft, with_draft, takes_event, takes, answer, master_falls, new_master_falls, fallen_too, agent_falls, instead, fallen_answer, Marked, step_marked, History, opening, extended, extend_all, history}
 use Rattle.cluster_safe.specs.Facts.{HasRoom, RoomForAll}
 use Rattle.cluster_safe.specs.Acknowledged.{Names, WasSent, WasCounted, recorded_tasks, AcknowledgedByOwner}

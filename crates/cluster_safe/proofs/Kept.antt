@@ -20,8 +20,8 @@ use Rattle.messages.specs.declared.mail.MasterMail.TheVariants.{Issued}
 use Rattle.messages.specs.declared.mail.AgentMail.{AgentMail}
 use Rattle.messages.specs.declared.mail.AgentMail.TheVariants.{Report, Applied, Update}
 use Rattle.messages.specs.declared.refusal.AgentRefusal.{AgentRefusal}
-use Rattle.messages.specs.declared.cause.Cause.{Cause}
-use Rattle.messages.specs.declared.cause.Cause.TheVariants.{Start, Mail, Executor, Again}
+use Rattle.messages.specs.declared.call.Cause.{Cause}
+use Rattle.messages.specs.declared.call.Cause.TheVariants.{Start, Mail, Executor, Again}
 use Rattle.cluster_model.specs.Ids.{first_of_run, following, is_among, is_repeated, is_empty}
 use Rattle.cluster_model.specs.Agents.{Agent, Draft, live_tasks, recovered, receives_mail, next_of}
 use Rattle.cluster_model.specs.Sides.{Run, Side, new_run, torn_down, unended, job_rows, offer_rows, taken, Sending, sends_nothing, issue, oldest_again, may_launch, books, launch_all, is_named, has_offer, is_good, used_offers, without_used, accepted, may_offer, offered, withdrawn, received_update, forget, forget_all, last_session, opens, opened, counts, shut, lost, halted, restarted, SideStep, MakeOffer, Withdraw, LaunchFrom, SendKill, SendAck, SendEnd, SendHello, SendAgain, Lose, side_step}

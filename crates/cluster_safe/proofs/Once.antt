@@ -13,11 +13,11 @@ use Rattle.messages.specs.declared.task.Job.{Job}
 use Rattle.messages.specs.declared.task.Offer.{Offer}
 use Rattle.cluster_model.specs.Channels.{Channel, World, after_all, open_world}
 use Rattle.cluster_model.specs.Clusters.{Cluster}
-use Rattle.messages.specs.declared.steps.step.Step.{Step}
-use Rattle.messages.specs.declared.steps.step.Step.TheVariants.{Tick}
-use Rattle.messages.specs.declared.steps.verdict.Sent.{Sent}
-use Rattle.messages.specs.declared.steps.verdict.Sent.TheVariants.{Call as CallSent, ToAgent as MailToAgent, ToMaster as MailToMaster}
-use Rattle.messages.specs.declared.steps.fault.ClusterFault.{ClusterFault}
+use Rattle.messages.specs.declared.steps.Step.{Step}
+use Rattle.messages.specs.declared.steps.Step.TheVariants.{Tick}
+use Rattle.messages.specs.declared.steps.Sent.{Sent}
+use Rattle.messages.specs.declared.steps.Sent.TheVariants.{Call as CallSent, ToAgent as MailToAgent, ToMaster as MailToMaster}
+use Rattle.messages.specs.declared.steps.ClusterFault.{ClusterFault}
 use Rattle.cluster_model.specs.Ids.{is_among}
 use Rattle.cluster_model.specs.Openings.{GoodOpening, KeysOnce, recorded_jobs}
 use Rattle.cluster_model.specs.Sides.{is_named, job_rows, offer_rows}

@@ -12,10 +12,10 @@ use Rattle.messages.specs.declared.mail.MasterMail.{MasterMail}
 use Rattle.messages.specs.declared.mail.MasterMail.TheVariants.{Issued}
 use Rattle.messages.specs.declared.task.Job.{Job}
 use Rattle.cluster_model.specs.Channels.{Channel, AgentStep, ChannelStep, ByMaster, Receive, ByAgent, received_mail, happens, at_agent, with_side}
-use Rattle.messages.specs.declared.steps.verdict.Sent.{Sent}
-use Rattle.messages.specs.declared.steps.verdict.Sent.TheVariants.{Call as CallSent, ToAgent as MailToAgent, ToMaster as MailToMaster}
-use Rattle.messages.specs.declared.steps.step.Step.{Step}
-use Rattle.messages.specs.declared.steps.step.Step.TheVariants.{Tick}
+use Rattle.messages.specs.declared.steps.Sent.{Sent}
+use Rattle.messages.specs.declared.steps.Sent.TheVariants.{Call as CallSent, ToAgent as MailToAgent, ToMaster as MailToMaster}
+use Rattle.messages.specs.declared.steps.Step.{Step}
+use Rattle.messages.specs.declared.steps.Step.TheVariants.{Tick}
 use Rattle.cluster_model.specs.Ids.{is_among, is_empty, is_repeated}
 use Rattle.cluster_model.specs.Sides.{Run, Side, Sending, sends_nothing, issue, books, Launching, may_launch, launch_all, is_good, used_offers, without_used, offer_rows, may_offer, SideStep, MakeOffer, Withdraw, LaunchFrom, SendKill, SendAck, SendEnd, SendHello, SendAgain, Lose, side_step}
 use Rattle.cluster_model.specs.Steps.{new_to_agent, new_to_master, sent_in, sent_between}

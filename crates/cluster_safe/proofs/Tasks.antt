@@ -7,7 +7,7 @@ use Rattle.messages.specs.declared.record.RecordParts.{RecordParts}
 use Rattle.messages.specs.declared.task.Job.{Job}
 use Rattle.messages.specs.declared.task.Offer.{Offer}
 use Rattle.cluster_model.specs.Channels.{Channel, open_world}
-use Rattle.messages.specs.declared.steps.step.Step.TheVariants.{Deliver, Allocate}
+use Rattle.messages.specs.declared.steps.Step.TheVariants.{Deliver, Allocate}
 use Rattle.cluster_model.specs.Events.{MadeOffer}
 use Rattle.cluster_model.specs.Openings.{GoodOpening}
 use Rattle.cluster_model.specs.Steps.{Setup, Marked, history}

@@ -17,11 +17,11 @@ use Rattle.messages.specs.declared.record.RecordParts.{RecordParts}
 use Rattle.messages.specs.declared.task.Job.{Job}
 use Rattle.cluster_model.specs.Channels.{Channel, ChannelStep, ByMaster, Receive, ByAgent, received_mail, agent_step, happens, World, Happening, At, TearDown, Restart, Halt, at_agent, with_side, open_channel, after, after_all}
 use Rattle.cluster_model.specs.Clusters.{Cluster, sides_of, master_of}
-use Rattle.messages.specs.declared.steps.verdict.Sent.{Sent}
-use Rattle.messages.specs.declared.steps.verdict.Sent.TheVariants.{Call as CallSent, ToAgent as MailToAgent, ToMaster as MailToMaster}
-use Rattle.messages.specs.declared.steps.fault.ClusterFault.{ClusterFault}
-use Rattle.messages.specs.declared.steps.fault.ClusterFault.TheVariants.{MasterDown, HistoryFull, TimeBack}
-use Rattle.messages.specs.declared.steps.step.Step.TheVariants.{Tick}
+use Rattle.messages.specs.declared.steps.Sent.{Sent}
+use Rattle.messages.specs.declared.steps.Sent.TheVariants.{Call as CallSent, ToAgent as MailToAgent, ToMaster as MailToMaster}
+use Rattle.messages.specs.declared.steps.ClusterFault.{ClusterFault}
+use Rattle.messages.specs.declared.steps.ClusterFault.TheVariants.{MasterDown, HistoryFull, TimeBack}
+use Rattle.messages.specs.declared.steps.Step.TheVariants.{Tick}
 use Rattle.cluster_model.specs.Ids.{is_among, last_number}
 use Rattle.cluster_model.specs.Mails.{ticks, ticked}
 use Rattle.cluster_model.specs.Sides.{Run, Side, Sending, sends_nothing, issue, oldest_again, books, Launching, may_launch, launch_one, launch_all, is_good, used_offers, without_used, offer_rows, may_offer, received_update, forget_all, last_session, opens, opened, counts, shut, halted, SideStep, MakeOffer, Withdraw, LaunchFrom, SendKill, SendAck, SendEnd, SendHello, SendAgain, Lose, side_step}
@@ -280,6 +280,6 @@ ticks_again c s d waits e tick = by s.step refl tick
     all now = old_if c (nat_le last_number c.entries) (Err HistoryFull) (if s.fell then fallen_answer c (Tick now) else answer c (Tick now)) tt
         (old_if c s.fell (fallen_answer c (Tick now)) (answer c (Tick now)) (fell_old c (with_tick c now) (answer c (Tick now))) (tick_old c now waits))
 
-    by : (step : Rattle.messages.specs.declared.steps.step.Step.Step) → s.step ≡ step → IsTick step → Each (IsOld c) d.outputs.sent
+    by : (step : Rattle.messages.specs.declared.steps.Step.Step) → s.step ≡ step → IsTick step → Each (IsOld c) d.outputs.sent
     by (Tick now) is t = subst (SendsOld c) e (subst (λ st. SendsOld c (if nat_le last_number c.entries then Err HistoryFull else (if s.fell then fallen_answer c st else answer c st))) (sym is) (all now))
     by other is t = absurd t

@@ -2,7 +2,7 @@
 use Rattle.std.specs.Prelude.{List, [], ◌∷◌, Result, Ok, Err}
 use Rattle.messages.specs.declared.record.RecordParts.{RecordParts}
 use Rattle.cluster_model.specs.Clusters.{Cluster}
-use Rattle.messages.specs.declared.steps.fault.ClusterFault.{ClusterFault}
+use Rattle.messages.specs.declared.steps.ClusterFault.{ClusterFault}
 use Rattle.cluster_model.specs.Steps.{Setup, Done, History, Marked, extended, opening, step_marked}
 
 -- a step that was taken: the state before it, and what it did, its entry among that

@@ -11,8 +11,8 @@ use Rattle.messages.specs.declared.record.RecordParts.{RecordParts}
 use Rattle.messages.specs.declared.record.RecordedTask.{RecordedTask}
 use Rattle.cluster_model.specs.Events.{Event, StreamEvent, Update}
 use Rattle.cluster_model.specs.Clusters.{Post, Called, Entry}
-use Rattle.messages.specs.declared.steps.step.Step.{Step}
-use Rattle.messages.specs.declared.steps.step.Step.TheVariants.{Send}
+use Rattle.messages.specs.declared.steps.Step.{Step}
+use Rattle.messages.specs.declared.steps.Step.TheVariants.{Send}
 use Rattle.cluster_model.specs.Steps.{History, Marked, extended, step_marked}
 use Rattle.cluster_safe.specs.Acknowledged.{recorded_tasks}
 use Rattle.cluster_safe.specs.Origin.{IsOneOf}

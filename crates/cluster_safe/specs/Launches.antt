@@ -13,10 +13,10 @@ use Rattle.messages.specs.declared.task.Job.{Job}
 use Rattle.messages.specs.declared.task.Offer.{Offer}
 use Rattle.cluster_model.specs.Channels.{Channel, World}
 use Rattle.cluster_model.specs.Clusters.{Cluster, Called}
-use Rattle.messages.specs.declared.steps.step.Step.TheVariants.{Deliver, Allocate}
-use Rattle.messages.specs.declared.steps.verdict.Verdict.TheVariants.{Ok as Fine}
-use Rattle.messages.specs.declared.steps.verdict.Sent.{Sent}
-use Rattle.messages.specs.declared.steps.verdict.Sent.TheVariants.{Call as CallSent, ToAgent as MailToAgent, ToMaster as MailToMaster}
+use Rattle.messages.specs.declared.steps.Step.TheVariants.{Deliver, Allocate}
+use Rattle.messages.specs.declared.steps.Verdict.TheVariants.{Ok as Fine}
+use Rattle.messages.specs.declared.steps.Sent.{Sent}
+use Rattle.messages.specs.declared.steps.Sent.TheVariants.{Call as CallSent, ToAgent as MailToAgent, ToMaster as MailToMaster}
 use Rattle.cluster_model.specs.Events.{MadeOffer}
 use Rattle.cluster_model.specs.Ids.{is_among, is_empty}
 use Rattle.cluster_model.specs.Sides.{job_rows, offer_rows}

@@ -3,7 +3,7 @@ use Rattle.std.specs.Prelude.{◌≢◌}
 use Rattle.std.specs.List.{AllByRecursion as Each}
 use Rattle.messages.specs.declared.refusal.AgentRefusal.TheVariants.{NoRoom}
 use Rattle.cluster_model.specs.Clusters.{Entry}
-use Rattle.messages.specs.declared.steps.verdict.Verdict.TheVariants.{AgentRefused}
+use Rattle.messages.specs.declared.steps.Verdict.TheVariants.{AgentRefused}
 use Rattle.cluster_model.specs.Steps.{History}
 
 -- no entry of the history is a refusal of an agent for want of room

@@ -3,12 +3,12 @@ use Rattle.std.proofs.Common.{◌≡◌, ℕ, List, Bool, true, false, Option, S
 use Rattle.std.proofs.lemmas.Bool.{MatchBool-at_true, MatchBool-at_false}
 use Rattle.std.specs.Prelude.{if◌then◌else◌, IsTrue, IfErr, IfOk}
 use Rattle.messages.specs.declared.record.RecordParts.{RecordParts}
-use Rattle.messages.specs.declared.entries.entry.Entry.{Entry}
-use Rattle.messages.specs.declared.steps.fault.ClusterFault.{ClusterFault}
-use Rattle.messages.specs.declared.steps.fault.ClusterFault.TheVariants.{NoSuchAgent}
-use Rattle.messages.specs.declared.steps.step.Keep.TheVariants.{Before}
-use Rattle.messages.specs.declared.steps.step.Step.{Step}
-use Rattle.messages.specs.declared.steps.step.Step.TheVariants.{StopAgent}
+use Rattle.messages.specs.declared.entries.Entry.{Entry}
+use Rattle.messages.specs.declared.steps.ClusterFault.{ClusterFault}
+use Rattle.messages.specs.declared.steps.ClusterFault.TheVariants.{NoSuchAgent}
+use Rattle.messages.specs.declared.steps.Keep.TheVariants.{Before}
+use Rattle.messages.specs.declared.steps.Step.{Step}
+use Rattle.messages.specs.declared.steps.Step.TheVariants.{StopAgent}
 use Rattle.desk_core.specs.Found.{IsRefusedWait}
 use Rattle.desk_core.specs.Receipts.{PassState}
 use Rattle.desk_core.specs.Refused.{refused_by}

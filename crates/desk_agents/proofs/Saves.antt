@@ -5,18 +5,18 @@ use Rattle.std.proofs.lemmas.List.{append_assoc, append-nil}
 use Rattle.std.proofs.lemmas.List.Elements.{All-head, All-nil, All-push, All-tail}
 use Rattle.std.specs.Prelude.{All, Bool, true, false, IfErr, IfOk, OnOk}
 use Rattle.messages.specs.declared.record.RecordParts.{RecordParts}
-use Rattle.messages.specs.declared.entries.entry.Entry.{Entry}
-use Rattle.messages.specs.declared.steps.step.Keep.{Keep}
-use Rattle.messages.specs.declared.steps.step.Keep.TheVariants.{After, Before}
-use Rattle.messages.specs.declared.steps.step.Step.{Step}
-use Rattle.messages.specs.declared.steps.step.Step.TheVariants.{Commit, Deliver, Prepare, StopAgent}
-use Rattle.messages.specs.declared.steps.step.StepCause.{StepCause}
+use Rattle.messages.specs.declared.entries.Entry.{Entry}
+use Rattle.messages.specs.declared.steps.Keep.{Keep}
+use Rattle.messages.specs.declared.steps.Keep.TheVariants.{After, Before}
+use Rattle.messages.specs.declared.steps.Step.{Step}
+use Rattle.messages.specs.declared.steps.Step.TheVariants.{Commit, Deliver, Prepare, StopAgent}
+use Rattle.messages.specs.declared.steps.StepCause.{StepCause}
 use Rattle.desk_core.specs.declared.desk.pass.Answered.{Answered}
 use Rattle.desk_core.specs.declared.desk.pass.Receipt.{Receipt}
 use Rattle.desk_core.specs.declared.fault.OfficeFault.{OfficeFault}
-use Rattle.messages.specs.declared.steps.fault.ClusterFault.{ClusterFault}
+use Rattle.messages.specs.declared.steps.ClusterFault.{ClusterFault}
 use Rattle.desk_core.specs.Receipts.{AnswersBy, PassState}
-use Rattle.desk_core.specs.declared.running.given.Given.{Given}
+use Rattle.desk_core.specs.declared.running.Given.{Given}
 use Rattle.desk_lock.specs.Answering.{Answers, Refusing, Taking, step_in}
 use Rattle.desk_agents.specs.Asked.{IsAnswered}
 use Rattle.desk_agents.specs.Saved.{HasDelivered, IsBehindSave, IsDelivery, IsDraftIn, IsGrown, IsKept, IsLastSaved, IsOpen, IsSaved, Keeping, Keeps, SavedFrom, WasKept, last_of, taker_of}

@@ -7,15 +7,15 @@ use Rattle.std.proofs.lemmas.List.Folds.{list_any_more}
 use Rattle.std.proofs.lemmas.List.Elements.{All-contains_itself, All-weaker}
 use Rattle.std.specs.Prelude.{All, Contains, IfErr, IfOk, OnErr, ℕ, if◌then◌else◌}
 use Rattle.names_core.specs.Ids.{Numbered, same}
-use Rattle.messages.specs.declared.entries.entry.Entry.{Entry}
-use Rattle.messages.specs.declared.steps.fault.ClusterFault.{ClusterFault}
-use Rattle.messages.specs.declared.steps.step.Step.{Step}
+use Rattle.messages.specs.declared.entries.Entry.{Entry}
+use Rattle.messages.specs.declared.steps.ClusterFault.{ClusterFault}
+use Rattle.messages.specs.declared.steps.Step.{Step}
 use Rattle.desk_lock.specs.Answering.{Answers, Refusing, Taking}
 use Rattle.desk_core.specs.declared.desk.pass.Answered.{Answered}
 use Rattle.desk_core.specs.declared.fault.OfficeFault.{OfficeFault}
 use Rattle.desk_core.specs.Receipts.{PassState}
-use Rattle.desk_core.specs.declared.running.given.Given.{Given}
-use Rattle.desk_core.specs.declared.running.open_offer.OpenOffer.{OpenOffer}
+use Rattle.desk_core.specs.declared.running.Given.{Given}
+use Rattle.desk_core.specs.declared.running.OpenOffer.{OpenOffer}
 use Rattle.desk_agents.specs.Asked.{IsAsked}
 use Rattle.desk_agents.specs.Declines.{HasDeclined, nothing, more, IsDeclined, IsHandedOn, WasOpen, decline_of, noted_of, offer_cmp, seen_since}
 use Rattle.desk_agents.specs.Ends.{IsShut}

@@ -1,15 +1,15 @@
 -- Steps that are requested of an office.
 use Rattle.std.specs.Prelude.{◌≡◌, ◌⊎◌, Bool, true, false}
-use Rattle.messages.specs.declared.entries.entry.Entry.{Entry}
-use Rattle.messages.specs.declared.steps.fault.ClusterFault.{ClusterFault}
-use Rattle.messages.specs.declared.steps.fault.ClusterFault.TheVariants.{NoSuchAgent}
-use Rattle.messages.specs.declared.steps.step.Step.{Step}
+use Rattle.messages.specs.declared.entries.Entry.{Entry}
+use Rattle.messages.specs.declared.steps.ClusterFault.{ClusterFault}
+use Rattle.messages.specs.declared.steps.ClusterFault.TheVariants.{NoSuchAgent}
+use Rattle.messages.specs.declared.steps.Step.{Step}
 use Rattle.desk_core.specs.Receipts.{PassState}
 use Rattle.desk_core.specs.declared.desk.pass.Answered.{Answered}
 use Rattle.desk_core.specs.declared.fault.OfficeFault.{OfficeFault}
 use Rattle.desk_core.specs.declared.fault.OfficeFault.TheVariants.{Core, ForeignPass}
 use Rattle.desk_lock.specs.Answering.{Answers, Refusing, Taking}
-use Rattle.desk_core.specs.declared.running.given.Given.{Given}
+use Rattle.desk_core.specs.declared.running.Given.{Given}
 
 -- the step is answered: it is taken, and the pass has its receipt
 abbrev pub IsAnswered : Taking → Step → PassState Entry → PassState Entry → Type 0

@@ -5,15 +5,15 @@ use Rattle.std.specs.BTreeMap.{BTreeMap, get}
 use Rattle.std.specs.Ordering.{nat_cmp, ordering_then}
 use Rattle.std.specs.declared.cmp.Ordering.{Ordering}
 use Rattle.names_core.specs.Ids.{Numbered, same}
-use Rattle.messages.specs.declared.entries.entry.Entry.{Entry}
-use Rattle.messages.specs.declared.steps.step.Step.{Step}
-use Rattle.messages.specs.declared.steps.step.Step.TheVariants.{Deliver, Send}
+use Rattle.messages.specs.declared.entries.Entry.{Entry}
+use Rattle.messages.specs.declared.steps.Step.{Step}
+use Rattle.messages.specs.declared.steps.Step.TheVariants.{Deliver, Send}
 use Rattle.desk_lock.specs.Answering.{Answers, Refusing, Taking}
 use Rattle.desk_core.specs.Receipts.{PassState}
 use Rattle.desk_core.specs.declared.desk.pass.Answered.{Answered}
 use Rattle.messages.specs.declared.call.Call.TheVariants.{Decline}
-use Rattle.desk_core.specs.declared.running.given.Given.{Given}
-use Rattle.desk_core.specs.declared.running.open_offer.OpenOffer.{OpenOffer}
+use Rattle.desk_core.specs.declared.running.Given.{Given}
+use Rattle.desk_core.specs.declared.running.OpenOffer.{OpenOffer}
 use Rattle.desk_agents.specs.Asked.{IsAsked}
 use Rattle.desk_agents.specs.Seen.{IsSeen}
 

@@ -1,8 +1,8 @@
 -- Why an activity ends with no fault.
 use Rattle.std.specs.Prelude.{◌≡◌, ◌⊎◌, ℕ, ◌+◌, List, Option, None, true, length}
 use Rattle.messages.specs.declared.record.RecordParts.{RecordParts}
-use Rattle.messages.specs.declared.entries.entry.Entry.{Entry}
-use Rattle.messages.specs.declared.steps.step.Step.{Step}
+use Rattle.messages.specs.declared.entries.Entry.{Entry}
+use Rattle.messages.specs.declared.steps.Step.{Step}
 use Rattle.desk_core.specs.Found.{IsFound}
 use Rattle.desk_core.specs.Receipts.{PassState}
 use Rattle.desk_core.specs.Refused.{IsForeign}

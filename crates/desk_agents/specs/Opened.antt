@@ -1,7 +1,7 @@
 -- What a cabinet keeps where an activity begins.
 use Rattle.std.specs.Prelude.{◌≡◌, List, [], Option, Some, None, ℕ}
 use Rattle.messages.specs.declared.record.RecordParts.{RecordParts}
-use Rattle.messages.specs.declared.entries.entry.Entry.{Entry}
+use Rattle.messages.specs.declared.entries.Entry.{Entry}
 use Rattle.desk_agents.specs.Seen.{IsSeen}
 
 -- the record of an agent that never opened a session

@@ -1,8 +1,8 @@
 -- The steps that a ticker requests of an office.
 use Rattle.std.specs.Prelude.{◌≡◌, ◌⊎◌, ℕ, List, [], ◌∷◌, Option, Bool, true, not, Result, Ok, Err}
-use Rattle.messages.specs.declared.entries.entry.Entry.{Entry}
-use Rattle.messages.specs.declared.steps.fault.ClusterFault.{ClusterFault}
-use Rattle.messages.specs.declared.steps.step.Step.TheVariants.{Allocate, Tick}
+use Rattle.messages.specs.declared.entries.Entry.{Entry}
+use Rattle.messages.specs.declared.steps.ClusterFault.{ClusterFault}
+use Rattle.messages.specs.declared.steps.Step.TheVariants.{Allocate, Tick}
 use Rattle.desk_core.specs.Receipts.{PassState}
 use Rattle.desk_core.specs.declared.fault.OfficeFault.{OfficeFault}
 use Rattle.desk_lock.specs.Answering.{Refusing, Taking}

@@ -1,15 +1,15 @@
 -- What an activity has saved, and what it adds to its pass.
 use Rattle.std.specs.Prelude.{◌≡◌, ℕ, List, [], ◌∷◌, ◌++◌, All, Option, Some, None, ⊤}
 use Rattle.messages.specs.declared.record.RecordParts.{RecordParts}
-use Rattle.messages.specs.declared.entries.entry.Entry.{Entry}
-use Rattle.messages.specs.declared.steps.step.Step.{Step}
-use Rattle.messages.specs.declared.steps.step.Step.TheVariants.{Prepare, Commit, Deliver, StopAgent}
-use Rattle.messages.specs.declared.steps.step.StepCause.{StepCause}
-use Rattle.messages.specs.declared.steps.step.Keep.TheVariants.{After}
+use Rattle.messages.specs.declared.entries.Entry.{Entry}
+use Rattle.messages.specs.declared.steps.Step.{Step}
+use Rattle.messages.specs.declared.steps.Step.TheVariants.{Prepare, Commit, Deliver, StopAgent}
+use Rattle.messages.specs.declared.steps.StepCause.{StepCause}
+use Rattle.messages.specs.declared.steps.Keep.TheVariants.{After}
 use Rattle.desk_core.specs.declared.desk.pass.Receipt.{Receipt}
 use Rattle.desk_core.specs.Receipts.{PassState}
 use Rattle.desk_lock.specs.Answering.{Taking}
-use Rattle.desk_core.specs.declared.running.given.Given.{Given}
+use Rattle.desk_core.specs.declared.running.Given.{Given}
 
 -- which records a cabinet keeps
 abbrev pub Keeping : Type 1

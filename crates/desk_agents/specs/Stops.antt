@@ -1,11 +1,11 @@
 -- How an activity's turn stops, and what becomes of a step that it requests.
 use Rattle.std.specs.Prelude.{◌≡◌, ◌⊎◌, ℕ, List, Bool, true, false, if◌then◌else◌, MatchBool, Option, Some, None, Result, Ok, Err}
-use Rattle.messages.specs.declared.entries.entry.Entry.{Entry}
-use Rattle.messages.specs.declared.steps.fault.ClusterFault.{ClusterFault}
-use Rattle.messages.specs.declared.steps.fault.ClusterFault.TheVariants.{AgentDown, NoDraft}
-use Rattle.messages.specs.declared.steps.step.Keep.TheVariants.{Before}
-use Rattle.messages.specs.declared.steps.step.Step.{Step}
-use Rattle.messages.specs.declared.steps.step.Step.TheVariants.{StopAgent}
+use Rattle.messages.specs.declared.entries.Entry.{Entry}
+use Rattle.messages.specs.declared.steps.ClusterFault.{ClusterFault}
+use Rattle.messages.specs.declared.steps.ClusterFault.TheVariants.{AgentDown, NoDraft}
+use Rattle.messages.specs.declared.steps.Keep.TheVariants.{Before}
+use Rattle.messages.specs.declared.steps.Step.{Step}
+use Rattle.messages.specs.declared.steps.Step.TheVariants.{StopAgent}
 use Rattle.desk_core.specs.Receipts.{PassState}
 use Rattle.desk_core.specs.declared.fault.OfficeFault.{OfficeFault}
 use Rattle.desk_core.specs.declared.fault.OfficeFault.TheVariants.{Core}

@@ -7,7 +7,7 @@ ghost use Rattle.desk_agents.specs.Declines.{HasDeclined, IsDeclined, IsHandedOn
 ghost use Rattle.desk_agents.specs.Ends.{IsShut};
 ghost use Rattle.desk_agents.specs.Seen.{IsSeen};
 ghost use Rattle.desk_agents.specs.declared.fault.Stop.TheVariants.{Ended};
-ghost use Rattle.messages.specs.declared.steps.fault.ClusterFault.TheVariants.{NoSuchAgent};
+ghost use Rattle.messages.specs.declared.steps.ClusterFault.TheVariants.{NoSuchAgent};
 
 use crate::clock::Seconds;
 use crate::fault::{Stop, found};

@@ -8,7 +8,7 @@ ghost use Rattle.desk_agents.specs.Stops.{IsLasting};
 ghost use Rattle.desk_agents.specs.declared.fault.CabinetFailures.TheVariants.{Borne};
 ghost use Rattle.desk_agents.specs.declared.fault.Stop.TheVariants.{Ended};
 ghost use Rattle.desk_agents.specs.declared.keeping.Saving.TheVariants.{Kept, NoDraft};
-ghost use Rattle.messages.specs.declared.steps.step.Keep.TheVariants.{After};
+ghost use Rattle.messages.specs.declared.steps.Keep.TheVariants.{After};
 
 use crate::fault::{ActivityFault, CabinetFailures, Stop};
 use crate::receipts::has_stopped;

@@ -4,7 +4,7 @@ ghost use Rattle.std.specs.Prelude.{◌≡◌, true, MatchBool};
 ghost use Rattle.desk_agents.specs.Asked.{IsAsked, IsTurnedAway};
 ghost use Rattle.desk_agents.specs.Moments.{moment_after};
 ghost use Rattle.desk_agents.specs.Rounds.{HasRounds, IsLastRound, IsRound, goes_on_after, ticking};
-ghost use Rattle.messages.specs.declared.steps.step.Step.TheVariants.{Allocate, Tick};
+ghost use Rattle.messages.specs.declared.steps.Step.TheVariants.{Allocate, Tick};
 
 use crate::clock::Seconds;
 use crate::fault::ends;

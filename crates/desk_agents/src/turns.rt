@@ -9,7 +9,7 @@ ghost use Rattle.desk_agents.specs.Stops.{IsLasting};
 ghost use Rattle.desk_agents.specs.declared.fault.ActivityFault.TheVariants.{Damaged};
 ghost use Rattle.desk_agents.specs.declared.fault.CabinetFailures.TheVariants.{Borne};
 ghost use Rattle.desk_agents.specs.declared.fault.Stop.TheVariants.{Ended};
-ghost use Rattle.messages.specs.declared.steps.fault.ClusterFault.TheVariants.{NoSuchAgent};
+ghost use Rattle.messages.specs.declared.steps.ClusterFault.TheVariants.{NoSuchAgent};
 
 use crate::executor::Executors;
 use crate::fault::{ActivityFault, CabinetFailures, Stop};

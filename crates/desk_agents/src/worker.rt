@@ -8,8 +8,8 @@ ghost use Rattle.desk_agents.specs.Saved.{HasDelivered, IsOpen};
 ghost use Rattle.desk_agents.specs.Seen.{IsSeen};
 ghost use Rattle.desk_agents.specs.Stops.{IsAfter, IsByOffice, IsLeft, IsRefused};
 ghost use Rattle.desk_agents.specs.declared.fault.Stop.TheVariants.{Ended, Later};
-ghost use Rattle.messages.specs.declared.steps.fault.ClusterFault.TheVariants.{NoSuchAgent};
-ghost use Rattle.messages.specs.declared.steps.step.Step.TheVariants.{Commit, Prepare, StopAgent};
+ghost use Rattle.messages.specs.declared.steps.ClusterFault.TheVariants.{NoSuchAgent};
+ghost use Rattle.messages.specs.declared.steps.Step.TheVariants.{Commit, Prepare, StopAgent};
 ghost use Rattle.desk_lock.specs.Answering.{Answers};
 
 use crate::fault::{CabinetFailures, Stop, found, mail_found, says_down, stop_of, unless_later};

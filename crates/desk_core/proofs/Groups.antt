@@ -3,10 +3,10 @@ use Rattle.std.proofs.Common.{◌<◌, ◌≤◌, ◌-◌, ◌≡◌, ℕ, zero,
 use Rattle.std.proofs.lemmas.List.Elements.{All-cons, All-head, All-nil, All-tail, Contains-append_left, Contains-append_right}
 use Rattle.std.proofs.lemmas.Option.{slice_get-map}
 use Rattle.names_core.specs.Ids.{Numbered}
-use Rattle.messages.specs.declared.events.stream_event.StreamEvent.{StreamEvent}
-use Rattle.messages.specs.declared.steps.verdict.Sent.{Sent}
-use Rattle.messages.specs.declared.steps.verdict.Sent.TheVariants.{Call, ToAgent, ToMaster}
-use Rattle.messages.specs.declared.entries.entry.Entry.{Entry}
+use Rattle.messages.specs.declared.events.StreamEvent.{StreamEvent}
+use Rattle.messages.specs.declared.steps.Sent.{Sent}
+use Rattle.messages.specs.declared.steps.Sent.TheVariants.{Call, ToAgent, ToMaster}
+use Rattle.messages.specs.declared.entries.Entry.{Entry}
 use Rattle.desk_core.specs.declared.recorded.Freed.{Freed}
 use Rattle.desk_core.specs.declared.recorded.Freed.TheVariants.{Everyone}
 use Rattle.desk_core.specs.Groups.{IsAmong, WakesFor, WakesForEach, ends_a_part, freed_by_end, freed_by_event, freed_by_sent, groups_closed, groups_of, groups_sent, groups_told, stream_group}

@@ -1,15 +1,15 @@
 -- In which group callers wait, and whom an entry frees.
 use Rattle.std.specs.Prelude.{◌⊎◌, ℕ, ◌+◌, ◌*◌, ◌%◌, ◌++◌, ◌||◌, Bool, true, false, if◌then◌else◌, List, [], ◌∷◌, Contains, fold, map, ⊤}
 use Rattle.names_core.specs.Ids.{Numbered}
-use Rattle.messages.specs.declared.events.stream_event.StreamEvent.{StreamEvent}
-use Rattle.messages.specs.declared.steps.step.Step.{Step}
-use Rattle.messages.specs.declared.steps.step.Step.TheVariants.{StopMaster}
-use Rattle.messages.specs.declared.steps.verdict.Sent.{Sent}
-use Rattle.messages.specs.declared.steps.verdict.Sent.TheVariants.{Call, ToAgent, ToMaster}
-use Rattle.messages.specs.declared.steps.verdict.Verdict.{Verdict}
-use Rattle.messages.specs.declared.steps.verdict.Verdict.TheVariants.{OutOfMemory}
-use Rattle.messages.specs.declared.entries.entry.Entry.{Entry}
-use Rattle.messages.specs.declared.entries.entry.Outputs.{Outputs}
+use Rattle.messages.specs.declared.events.StreamEvent.{StreamEvent}
+use Rattle.messages.specs.declared.steps.Step.{Step}
+use Rattle.messages.specs.declared.steps.Step.TheVariants.{StopMaster}
+use Rattle.messages.specs.declared.steps.Sent.{Sent}
+use Rattle.messages.specs.declared.steps.Sent.TheVariants.{Call, ToAgent, ToMaster}
+use Rattle.messages.specs.declared.steps.Verdict.{Verdict}
+use Rattle.messages.specs.declared.steps.Verdict.TheVariants.{OutOfMemory}
+use Rattle.messages.specs.declared.entries.Entry.{Entry}
+use Rattle.messages.specs.declared.entries.Outputs.{Outputs}
 use Rattle.desk_core.specs.declared.recorded.Freed.{Freed}
 use Rattle.desk_core.specs.declared.recorded.Freed.TheVariants.{Everyone, Group, Nobody}
 

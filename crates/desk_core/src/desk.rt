@@ -1,22 +1,22 @@
 //! A recorded thing, and the seat of each of its entries.
 
-ghost use Rattle.std.specs.Prelude.{◌≡◌, ◌≤◌, ◌+◌, ◌-◌, ◌<◌, ℕ, get_or, ◌↔◌, ◌⊎◌, ◌++◌, ◌∷◌, false, true, [], IsTrue, IfOk, IfErr, OnOk, OnErr, length, vec_len, vec_capacity};
-ghost use Rattle.desk_core.specs.Receipts.{AnswersBy, Enters, IsEntered, StandsIn, Unchanged};
+ghost use Rattle.std.specs.Prelude.{◌≡◌, ◌≤◌, ◌+◌, ◌-◌, ◌<◌, ℕ, get_or, ◌↔◌, ◌⊎◌, ◌++◌, ◌∷◌, false, true, [], IsTrue, IfOk, IfErr, OnOk, OnErr, length, vec_len, vec_capacity, ◌==◌, count_by, All, sum_by, option_map, option_to_list, unwrap_or};
+ghost use Rattle.desk_core.specs.Receipts.{AnswersBy, Enters, IsEntered, StandsIn, Unchanged, PassState};
 ghost use Rattle.desk_core.specs.Found.{Counts, IsFound};
 ghost use Rattle.desk_core.specs.Refused.{IsForeign, MayRefuseCall, MayRefuseApply, MayRefuseSeat, refused_by};
 ghost use Rattle.desk_core.specs.Kept.{counts_with};
 ghost use Rattle.desk_core.specs.Seats.{DeskState, entered_as};
+ghost use Rattle.desk_core.specs.Walked.{IsOfSeat, Rises};
+ghost use Rattle.desk_core.specs.declared.fault.OfficeFault.TheVariants.{ForeignPass};
 
-mod accounts;
-mod closing;
 pub mod pass;
-pub mod passes;
 pub mod seated;
 
+use crate::desk::pass::{Answered, Pass, Receipt, Slip};
+use crate::desk::seated::SeatedHistory;
 use crate::fault::{FaultKind, OfficeFault};
 use crate::recorded::{Entered, Recorded};
-use pass::{Answered, Pass, Receipt, Slip};
-use std::alloc::Global;
+use std::alloc::{AllocFailed, Global};
 use std::marker::Model;
 use std::sync::ledger;
 use std::sync::ledger::{Blank, Book, Share};
@@ -359,5 +359,239 @@ impl<C: Recorded, L: ledger::Ledger> Desk<C, L> {
             }
             Err(fault) => Err(fault),
         }
+    }
+}
+
+/// Whether a receipt is of an entry of the seat.
+fn is_of_seat<C: Recorded>(
+    recorded: &C,
+    seats: &[u32],
+    seat: u32,
+    receipt: &Receipt<C::Entry>,
+) -> bool
+    ensures { IsTrue result ↔ ((0 < receipt.now.number)
+        × IsOfSeat seat 0 seats.now (C.history recorded.now) receipt.now) }
+{
+    if receipt.number == 0 {
+        return false;
+    }
+    let index = receipt.number as usize - 1;
+    index < seats.len() && seats[index] == seat && recorded.is_entry(index, &receipt.entry)
+}
+
+/// Whether the receipts are of entries of the seat, and their numbers rise.
+fn rise<C: Recorded>(recorded: &C, seats: &[u32], seat: u32, receipts: &[Receipt<C::Entry>]) -> bool
+    ensures { IsTrue result ↔ Rises seat 0 seats.now (C.history recorded.now) 0 receipts.now }
+{
+    let mut last = 0;
+    for i in 0..receipts.len() {
+        let receipt = &receipts[i];
+        if receipt.number <= last || !is_of_seat::<C>(recorded, seats, seat, receipt) {
+            return false;
+        }
+        last = receipt.number;
+    }
+    true
+}
+
+/// How many entries are nobody's.
+fn nobodys(seats: &[u32]) -> usize
+    ensures { result ≡ count_by (λ s. s == 0) seats.now }
+{
+    seats.iter().filter(|seat| **seat == 0).count()
+}
+
+impl<C: Recorded, L: ledger::Ledger> Desk<C, L> {
+    /// How many entries a seat has, or nobody.
+    fn entries_of(&self, seat: u32) -> usize
+        ensures { result ≡ count_by (λ s. s == seat) self.now.seats }
+    {
+        if seat == 0 {
+            return nobodys(self.seats.as_slice());
+        }
+        let counts = self.counts.as_slice();
+        if seat as usize > counts.len() {
+            return 0;
+        }
+        counts[seat as usize - 1] as usize
+    }
+
+    /// Whether the receipts of a pass are the entries of its seat, each once and in order.
+    /// It takes time in the number of the receipts alone.
+    pub(super) fn accounts(&self, slip: &Slip<C::Entry>) -> bool
+        ensures { IsTrue result ↔ StandsIn (C.history self.now.recorded) self.now.seats slip.now }
+    {
+        self.entries();
+        let receipts = slip.receipts();
+        let seat = slip.seat();
+        if self.entries_of(seat) != receipts.len() {
+            return false;
+        }
+        rise::<C>(&self.recorded, self.seats.as_slice(), seat, receipts)
+    }
+}
+
+impl<C: Recorded, L: ledger::Ledger> Desk<C, L> {
+    /// There are at least as many entries as the passes have receipts together.
+    fn audit(&mut self, passes: &mut Passes<C::Entry, L>)
+        ensures bound { sum_by (λ p. length p.receipts) passes.old
+            ≤ length (C.history self.old.recorded) }
+        ensures same { (self.new ≡ self.old) × (passes.new ≡ passes.old) }
+    {
+        self.entries();
+        if let Some(all) = &mut passes.share {
+            self.book.audit(all);
+        }
+    }
+
+    /// Whether the receipts of each pass are the entries of its seat.
+    fn accounts_all(&self, slips: &[Slip<C::Entry>]) -> bool
+        ensures { IsTrue result ↔ All (λ p. StandsIn (C.history self.now.recorded) self.now.seats p)
+            slips.now }
+    {
+        for slip in slips {
+            if !self.accounts(slip) {
+                return false;
+            }
+        }
+        true
+    }
+
+    /// What is left of the desk.
+    fn into_history(self) -> SeatedHistory<C>
+        ensures { (result.recorded ≡ self.recorded) × (result.seats ≡ self.seats) }
+    {
+        let Desk {
+            recorded,
+            seats,
+            counts,
+            finished: _,
+            book,
+            rest,
+        } = self;
+        drop(counts);
+        drop(book);
+        drop(rest);
+        SeatedHistory { recorded, seats }
+    }
+
+    /// Closes the desk over these passes: for each the entries of its seat are its receipts, each
+    /// once and in order. It takes time in the number of the receipts. Refusal: O1, where the
+    /// receipts of a pass aren't its seat's entries; the desk and the passes are returned as they
+    /// were. Either way there are at least as many entries as the passes have receipts together.
+    pub fn close(
+        self,
+        passes: Passes<C::Entry, L>,
+    ) -> Result<SeatedHistory<C>, (Desk<C, L>, Passes<C::Entry, L>, OfficeFault<C::Fault>)>
+        ensures sound { IfOk result (λ h. C.sound h.recorded) }
+        ensures same_history { IfOk result (λ h. (h.recorded ≡ self.recorded)
+            × (h.seats ≡ self.seats)) }
+        ensures stands { IfOk result
+            (λ h. All (λ p. StandsIn (C.history h.recorded) h.seats p) passes) }
+        ensures returned { IfErr result (λ e. (e.0 ≡ self) × (e.1 ≡ passes)) }
+        ensures foreign { IfErr result
+            (λ e. (e.2 ≡ ForeignPass (length (C.history e.0.recorded) + 1))
+            × (All (λ p. StandsIn (C.history e.0.recorded) e.0.seats p) passes → ⊥)) }
+        ensures count { sum_by (λ p. length p.receipts) passes ≤ length (C.history self.recorded) }
+    {
+        let mut desk = self;
+        let mut passes = passes;
+        desk.audit(&mut passes);
+        desk.is_sound();
+        if !desk.accounts_all(passes.slips()) {
+            let entries = desk.len();
+            return Err((desk, passes, OfficeFault::ForeignPass(entries)));
+        }
+        Ok(desk.into_history())
+    }
+}
+
+/// Passes over which a desk is closed. Their shares of the count are merged,
+/// so that they can be compared with its total.
+#[derive(Drop)]
+pub struct Passes<E, L: ledger::Ledger> {
+    pub(super) slips: Vec<Slip<E>>,
+    pub(super) share: Option<Share<L>>,
+}
+
+impl<E, L: ledger::Ledger> Model for Passes<E, L> {
+    ghost use Rattle.std.specs.Prelude.{◌≡◌, List, length, option_map, sum_by, unwrap_or};
+    ghost use Rattle.desk_core.specs.Receipts.{PassState};
+
+    ghost Value = { List (PassState E) };
+
+    ghost view = { λ p. p.slips.items };
+
+    ghost invariant = { λ p.
+        (unwrap_or (option_map (λ s. s.parts) p.share) 0 ≡ length p.slips.items)
+        × (unwrap_or (option_map (λ s. s.amount) p.share) 0
+        ≡ sum_by (λ s. length s.receipts) p.slips.items) };
+}
+
+/// Two shares as one.
+fn merged<L: ledger::Ledger>(one: Option<Share<L>>, other: Share<L>) -> Share<L>
+    ensures parts { result.parts ≡ unwrap_or (option_map (λ s. s.parts) one) 0 + other.parts }
+    ensures amount { result.amount ≡ unwrap_or (option_map (λ s. s.amount) one) 0 + other.amount }
+{
+    match one {
+        Some(one) => {
+            let mut all = one;
+            all.merge(other);
+            all
+        }
+        None => other,
+    }
+}
+
+impl<E, L: ledger::Ledger> Passes<E, L> {
+    pub fn new(alloc: Global) -> Passes<E, L>
+        ensures { result ≡ [] }
+    {
+        Passes {
+            slips: Vec::new(alloc),
+            share: None,
+        }
+    }
+
+    pub fn len(&self) -> usize
+        ensures { result ≡ length self.now }
+    {
+        self.slips.len()
+    }
+
+    /// Adds one more. Where memory is refused it is returned.
+    pub fn push(&mut self, pass: Pass<E, L>) -> Result<(), AllocFailed<Pass<E, L>>>
+        ensures pushed { OnOk result (self.new ≡ self.old ++ pass ∷ []) }
+        ensures unchanged { OnErr result (self.new ≡ self.old) }
+        ensures returned { IfErr result (λ e. e.value ≡ pass) }
+    {
+        if self.slips.reserve(1).is_err() {
+            return Err(AllocFailed { value: pass });
+        }
+        let Pass { slip, share } = pass;
+        self.share = Some(merged(self.share.take(), share));
+        self.slips.push_reserved(slip);
+        Ok(())
+    }
+
+    /// Removes the one that was added last, and returns it.
+    pub fn pop(&mut self) -> Option<Pass<E, L>>
+        ensures { self.old ≡ self.new ++ option_to_list result }
+    {
+        let slip = self.slips.pop()?;
+        let count = slip.receipts().len() as u64;
+        match &mut self.share {
+            Some(all) => Some(Pass {
+                slip,
+                share: all.split_off(1, count),
+            }),
+            None => unreachable!(),
+        }
+    }
+
+    pub(super) fn slips(&self) -> &[Slip<E>]
+        ensures { result.now ≡ self.now }
+    {
+        self.slips.as_slice()
     }
 }

@@ -8,9 +8,8 @@ mod recorded;
 mod running;
 
 pub use desk::pass::{Answered, Pass, Receipt};
-pub use desk::passes::Passes;
 pub use desk::seated::SeatedHistory;
-pub use desk::{Desk, refusal};
+pub use desk::{Desk, Passes, refusal};
 pub use fault::{FaultKind, OfficeFault};
 pub use recorded::{Entered, Freed, GROUPS, Recorded};
 pub use running::{

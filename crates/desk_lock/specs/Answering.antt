@@ -1,11 +1,11 @@
 -- How a desk over a cluster that runs answers.
-use Rattle.messages.specs.declared.entries.entry.Entry.{Entry}
-use Rattle.messages.specs.declared.steps.fault.ClusterFault.{ClusterFault}
-use Rattle.messages.specs.declared.steps.step.Step.{Step}
+use Rattle.messages.specs.declared.entries.Entry.{Entry}
+use Rattle.messages.specs.declared.steps.ClusterFault.{ClusterFault}
+use Rattle.messages.specs.declared.steps.Step.{Step}
 use Rattle.desk_core.specs.Receipts.{AnswersBy, PassState}
 use Rattle.desk_core.specs.declared.desk.pass.Answered.{Answered}
 use Rattle.desk_core.specs.declared.fault.OfficeFault.{OfficeFault}
-use Rattle.desk_core.specs.declared.running.given.Given.{Given}
+use Rattle.desk_core.specs.declared.running.Given.{Given}
 
 -- some state of a cluster took a step so
 abbrev pub Taking : Type 1

@@ -1,8 +1,8 @@
 //! An office over a cluster that runs.
 
 ghost use Rattle.std.specs.Prelude.{◌≡◌, None, IfErr, IfOk, MatchOption, OnErr};
-ghost use Rattle.messages.specs.declared.steps.fault.ClusterFault.TheVariants.{NoSuchAgent};
-ghost use Rattle.messages.specs.declared.steps.step.Step.TheVariants.{Take};
+ghost use Rattle.messages.specs.declared.steps.ClusterFault.TheVariants.{NoSuchAgent};
+ghost use Rattle.messages.specs.declared.steps.Step.TheVariants.{Take};
 ghost use Rattle.desk_lock.specs.Answering.{Answers};
 ghost use Rattle.desk_lock.specs.Waits.{LacksAgent, StreamEnds, Wakes, turn_of, wake_of};
 ghost use Rattle.desk_core.specs.Found.{IsRefusedWait};

@@ -4,9 +4,9 @@ use Rattle.serde_json.specs.Data.{Data}
 use Rattle.serde_json.specs.View.{items_of}
 use Rattle.serde_json.specs.Written.{has_float, items_have_float}
 use Rattle.quantity.specs.declared.rows.Row.{Row}
-use Rattle.messages.specs.declared.events.event.Event.{Event}
-use Rattle.messages.specs.declared.events.event.Event.TheVariants.{Subscribed, Offers, Rescind, Update, Failure, Error, Heartbeat}
-use Rattle.messages.specs.declared.events.offer.SentOffer.{SentOffer}
+use Rattle.messages.specs.declared.events.Event.{Event}
+use Rattle.messages.specs.declared.events.Event.TheVariants.{Subscribed, Offers, Rescind, Update, Failure, Error, Heartbeat}
+use Rattle.messages.specs.declared.events.SentOffer.{SentOffer}
 use Rattle.names_core.specs.States.{state_text}
 use Rattle.names_core.specs.Updates.{update_text}
 use Rattle.event_json.specs.Offers.{row_data, offer_data}

@@ -23,9 +23,9 @@ use Rattle.event_json.specs.Bounds.{longest, IsName, IsOffer, AreOffers, IsEvent
 use Rattle.event_json.specs.Events.{event_data, event_text}
 use Rattle.event_json.specs.Offers.{row_data, offer_data}
 use Rattle.event_json.specs.Statuses.{status_object}
-use Rattle.messages.specs.declared.events.event.Event.{Event}
-use Rattle.messages.specs.declared.events.event.Event.TheVariants.{Subscribed, Offers, Rescind, Update, Failure, Error, Heartbeat}
-use Rattle.messages.specs.declared.events.offer.SentOffer.{SentOffer}
+use Rattle.messages.specs.declared.events.Event.{Event}
+use Rattle.messages.specs.declared.events.Event.TheVariants.{Subscribed, Offers, Rescind, Update, Failure, Error, Heartbeat}
+use Rattle.messages.specs.declared.events.SentOffer.{SentOffer}
 
 -- ---- strings
 

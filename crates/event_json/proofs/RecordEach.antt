@@ -6,8 +6,8 @@ use Rattle.serde_json.specs.Data.{Data, string}
 use Rattle.serde_json.specs.View.{view, items_of}
 use Rattle.serde_json.specs.declared.value.Value.{Value}
 use Rattle.serde_json.specs.declared.value.Value as declared
-use Rattle.event_json.specs.declared.record.fault.RecordFault.{RecordFault}
-use Rattle.event_json.specs.declared.record.fault.RecordFault.TheVariants as faults
+use Rattle.event_json.specs.declared.record.RecordFault.{RecordFault}
+use Rattle.event_json.specs.declared.record.RecordFault.TheVariants as faults
 use Rattle.event_json.specs.Reading.{◌>>=◌, Fails, adds, each_in, values_of}
 
 module _ (A : Type 0) (f : Data → Option A) where

@@ -4,10 +4,10 @@ use Rattle.std.specs.List.{AllByRecursion}
 use Rattle.names_core.specs.Ids.{InRange}
 use Rattle.names_core.specs.Names.{is_name}
 use Rattle.quantity.specs.Rows.{AreRows}
-use Rattle.messages.specs.declared.events.offer.SentOffer.{SentOffer}
-use Rattle.messages.specs.declared.events.status.TaskStatus.{TaskStatus}
-use Rattle.messages.specs.declared.events.event.Event.{Event}
-use Rattle.messages.specs.declared.events.event.Event.TheVariants.{Subscribed, Offers, Rescind, Update, Failure, Error, Heartbeat}
+use Rattle.messages.specs.declared.events.SentOffer.{SentOffer}
+use Rattle.messages.specs.declared.events.TaskStatus.{TaskStatus}
+use Rattle.messages.specs.declared.events.Event.{Event}
+use Rattle.messages.specs.declared.events.Event.TheVariants.{Subscribed, Offers, Rescind, Update, Failure, Error, Heartbeat}
 
 -- no event's text has more bytes, so each fits a record of the event stream
 abbrev pub longest : ℕ

@@ -7,10 +7,10 @@ use Rattle.names_core.specs.Ids.{Numbered}
 use Rattle.event_json.specs.Ids.{only, id_data, framework_data, offer_id_data}
 use Rattle.event_json.specs.Offers.{offer_data}
 use Rattle.event_json.specs.Statuses.{status_data}
-use Rattle.messages.specs.declared.events.offer.SentOffer.{SentOffer}
-use Rattle.messages.specs.declared.events.status.TaskStatus.{TaskStatus}
-use Rattle.messages.specs.declared.events.event.Event.{Event}
-use Rattle.messages.specs.declared.events.event.Event.TheVariants.{Subscribed, Offers, Rescind, Update, Failure, Error, Heartbeat}
+use Rattle.messages.specs.declared.events.SentOffer.{SentOffer}
+use Rattle.messages.specs.declared.events.TaskStatus.{TaskStatus}
+use Rattle.messages.specs.declared.events.Event.{Event}
+use Rattle.messages.specs.declared.events.Event.TheVariants.{Subscribed, Offers, Rescind, Update, Failure, Error, Heartbeat}
 
 -- a type
 abbrev pub type_data : List ℕ → Data

@@ -4,7 +4,7 @@ use Rattle.serde_json.specs.Data.{Data, string, number, unsigned, array, object,
 use Rattle.serde_json.specs.View.{items_of}
 use Rattle.quantity.specs.declared.rows.Row.{Row}
 use Rattle.event_json.specs.Ids.{only, id_data, framework_data, offer_id_data}
-use Rattle.messages.specs.declared.events.offer.SentOffer.{SentOffer}
+use Rattle.messages.specs.declared.events.SentOffer.{SentOffer}
 
 -- an amount of a resource, as a scalar that is reserved for no role
 abbrev pub row_data : Row → Data

@@ -14,8 +14,8 @@ use Rattle.stream_core.specs.Updates.{Updates, are_updates}
 use Rattle.messages.specs.declared.record.RecordParts.{RecordParts}
 use Rattle.messages.specs.declared.record.RecordedTask.{RecordedTask}
 use Rattle.event_json.specs.Texts.{record_form, first_form, task_form, total_form}
-use Rattle.event_json.specs.declared.record.fault.RecordFault.{RecordFault}
-use Rattle.event_json.specs.declared.record.fault.RecordFault.TheVariants.{Damaged, OutOfMemory}
+use Rattle.event_json.specs.declared.record.RecordFault.{RecordFault}
+use Rattle.event_json.specs.declared.record.RecordFault.TheVariants.{Damaged, OutOfMemory}
 
 -- what comes next, where a value is there
 infixl 10 ◌>>=◌

@@ -4,7 +4,7 @@ use Rattle.serde_json.specs.Data.{Data, string, object, Members, no_members, mem
 use Rattle.names_core.specs.States.{state_text}
 use Rattle.names_core.specs.Updates.{update_text}
 use Rattle.event_json.specs.Ids.{id_data}
-use Rattle.messages.specs.declared.events.status.TaskStatus.{TaskStatus}
+use Rattle.messages.specs.declared.events.TaskStatus.{TaskStatus}
 
 -- the agent, where there is one, before other members
 abbrev pub with_agent : Option (List ℕ) → Members → Members

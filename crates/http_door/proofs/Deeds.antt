@@ -2,7 +2,7 @@
 use Rattle.std.proofs.Common.{◌≡◌, ℕ, ◌<◌, List, [], ◌∷◌, ◌++◌, Some, Ok, ◌⊎◌, inl, inr, sym, ap, ◌∙◌, subst, refl, arith, append_assoc, append-nil}
 use Rattle.std.proofs.lemmas.List.{length-append}
 use Rattle.names_core.specs.Ids.{Numbered}
-use Rattle.messages.specs.declared.events.event.Event.{Event}
+use Rattle.messages.specs.declared.events.Event.{Event}
 use Rattle.event_json.specs.Events.{event_text}
 use Rattle.http_head.specs.Responses.{event_chunk}
 use Rattle.http_door.specs.Deeds.{Deed, nexts, Chain, TurnsSpent, taken}

@@ -1,10 +1,10 @@
 -- The events of a stream, sent one after another.
 use Rattle.std.proofs.Common.{◌≡◌, ℕ, ◌+◌, List, [], ◌∷◌, ◌++◌, length, take, None, Result, Ok, Err, sym, ap, ◌∙◌, refl, append_assoc, append-nil}
 use Rattle.names_core.specs.Ids.{Numbered}
-use Rattle.messages.specs.declared.events.event.Event.{Event}
+use Rattle.messages.specs.declared.events.Event.{Event}
 use Rattle.event_json.specs.Events.{event_text}
 use Rattle.http_head.specs.Responses.{subscribed_response, event_chunk, last_chunk}
-use Rattle.http_head.specs.declared.request.fault.ConnectionFault.{ConnectionFault}
+use Rattle.http_head.specs.declared.request.ConnectionFault.{ConnectionFault}
 use Rattle.http_door.specs.Deeds.{Deed, nexts, hangs_up, taken}
 use Rattle.http_door.specs.Exchange.{chunks, nothing, closed, failed, BreaksStream}
 use Rattle.http_door.specs.Turns.{Sends, MissesEvent, unsent, untaken, SendsEvents, Streams}

@@ -5,7 +5,7 @@ use Rattle.messages.specs.declared.call.Call.{Call}
 use Rattle.call_json.specs.declared.members.fault.CallFault.TheVariants as faults
 use Rattle.call_json.specs.declared.members.fault.Refusal as causes
 use Rattle.call_json.specs.Calls.{read_call}
-use Rattle.messages.specs.declared.events.event.Event.{Event}
+use Rattle.messages.specs.declared.events.Event.{Event}
 use Rattle.http_head.specs.Responses.{accepted_response}
 use Rattle.http_head.specs.declared.plan.Plan.{Plan}
 use Rattle.http_door.specs.declared.bench.Answer.{Answer}

@@ -7,7 +7,7 @@ use Rattle.call_json.specs.declared.members.fault.CallFault.{CallFault}
 use Rattle.call_json.specs.declared.members.fault.CallFault.TheVariants as faults
 use Rattle.call_json.specs.Calls.{read_call}
 use Rattle.http_head.specs.declared.plan.Plan.{Plan}
-use Rattle.http_head.specs.declared.request.fault.ConnectionFault.{ConnectionFault}
+use Rattle.http_head.specs.declared.request.ConnectionFault.{ConnectionFault}
 use Rattle.http_door.specs.declared.bench.Answer.TheVariants.{Refused}
 use Rattle.http_door.specs.declared.refusal.BenchFault.{BenchFault}
 use Rattle.http_door.specs.declared.refusal.Refusal.TheVariants as refusals

@@ -4,7 +4,7 @@ use Rattle.httparse.specs.Grammar.{RequestHead}
 use Rattle.http_head.specs.declared.fault.RequestFault.{RequestFault}
 use Rattle.http_head.specs.declared.plan.Plan.{Plan}
 use Rattle.http_head.specs.Heads.{head_check}
-use Rattle.http_head.specs.declared.request.fault.ConnectionFault.{ConnectionFault}
+use Rattle.http_head.specs.declared.request.ConnectionFault.{ConnectionFault}
 use Rattle.http_head.specs.Requests.{HasHead, RefusesHead}
 use Rattle.http_head.specs.Bodies.{HasBody, RefusesBody}
 use Rattle.http_door.specs.declared.refusal.Refusal.TheVariants as refusals

@@ -3,7 +3,7 @@ use Rattle.std.specs.Prelude.{◌≡◌, ◌≤◌, List, [], ◌∷◌, length,
 use Rattle.std.specs.declared.alloc.AllocError.{AllocError}
 use Rattle.names_core.specs.Ids.{Numbered}
 use Rattle.messages.specs.declared.call.Call.{Call}
-use Rattle.messages.specs.declared.events.event.Event.{Event}
+use Rattle.messages.specs.declared.events.Event.{Event}
 use Rattle.http_door.specs.declared.bench.Answer.{Answer}
 
 pub data Deed : Type 0 where

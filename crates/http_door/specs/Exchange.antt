@@ -7,7 +7,7 @@ use Rattle.httparse.specs.Grammar.{RequestHead}
 use Rattle.messages.specs.declared.call.Call.{Call}
 use Rattle.call_json.specs.declared.members.fault.CallFault.TheVariants as faults
 use Rattle.call_json.specs.Calls.{read_call}
-use Rattle.messages.specs.declared.events.event.Event.{Event}
+use Rattle.messages.specs.declared.events.Event.{Event}
 use Rattle.event_json.specs.Events.{event_text}
 use Rattle.http_head.specs.Responses.{accepted_response, continue_response, subscribed_response, event_chunk, last_chunk}
 use Rattle.http_head.specs.declared.fault.RequestFault.{RequestFault}

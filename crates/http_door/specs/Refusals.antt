@@ -6,8 +6,8 @@ use Rattle.messages.specs.Refusals.{master_refusal_text}
 use Rattle.call_json.specs.declared.members.fault.CallFault.{CallFault}
 use Rattle.call_json.specs.declared.members.fault.CallFault.TheVariants as calls
 use Rattle.call_json.specs.Texts.{fault_text}
-use Rattle.http_head.specs.declared.text.status.Status.{Status}
-use Rattle.http_head.specs.declared.text.status.Status.TheVariants.{BadRequest, Forbidden, ServiceUnavailable}
+use Rattle.http_head.specs.declared.text.Status.{Status}
+use Rattle.http_head.specs.declared.text.Status.TheVariants.{BadRequest, Forbidden, ServiceUnavailable}
 use Rattle.http_head.specs.Responses.{refusal_response}
 use Rattle.http_head.specs.Faults as heads
 use Rattle.http_door.specs.declared.refusal.BenchFault.{BenchFault}

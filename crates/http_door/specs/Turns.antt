@@ -3,12 +3,12 @@ use Rattle.std.specs.Prelude.{◌≡◌, ℕ, Bool, true, false, List, [], ◌�
 use Rattle.std.specs.declared.alloc.AllocError.{AllocError}
 use Rattle.names_core.specs.Ids.{Numbered}
 use Rattle.messages.specs.declared.call.Call.{Call}
-use Rattle.messages.specs.declared.events.event.Event.{Event}
+use Rattle.messages.specs.declared.events.Event.{Event}
 use Rattle.http_head.specs.Responses.{event_chunk, last_chunk}
 use Rattle.event_json.specs.Events.{event_text}
 use Rattle.http_head.specs.declared.fault.RequestFault.{RequestFault}
 use Rattle.http_head.specs.declared.plan.Plan.{Plan}
-use Rattle.http_head.specs.declared.request.fault.ConnectionFault.{ConnectionFault}
+use Rattle.http_head.specs.declared.request.ConnectionFault.{ConnectionFault}
 use Rattle.call_json.specs.Calls.{read_call}
 use Rattle.http_head.specs.Bodies.{HasBody, RefusesBody}
 use Rattle.http_door.specs.declared.refusal.Refusal.{Refusal}

@@ -4,7 +4,7 @@ ghost use Rattle.std.specs.Prelude.{◌≡◌, ◌<◌, ◌⊎◌, ◌++◌, ℕ
 ghost use Rattle.call_json.specs.Calls.{read_call};
 ghost use Rattle.call_json.specs.Answers.{Gives};
 ghost use Rattle.http_head.specs.Heads.{IsWithinLimit};
-ghost use Rattle.http_head.specs.declared.request.fault.ConnectionFault.TheVariants.{Failed};
+ghost use Rattle.http_head.specs.declared.request.ConnectionFault.TheVariants.{Failed};
 ghost use Rattle.http_door.specs.Deeds.{Deed, Chain, TurnsSpent};
 ghost use Rattle.http_head.specs.Responses.{continue_response};
 ghost use Rattle.http_door.specs.Turns.{Sends, RefusesLast, RespondsToCall, RespondsTo, RespondsToPlan, Turns, Serving};

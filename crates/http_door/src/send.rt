@@ -3,7 +3,7 @@
 ghost use Rattle.std.specs.Prelude.{◌≡◌, ◌<◌, ℕ, List, [], ◌∷◌, ◌++◌, OnOk, IsErrOf};
 ghost use Rattle.event_json.specs.Events.{event_text};
 ghost use Rattle.http_head.specs.Responses.{event_chunk};
-ghost use Rattle.http_head.specs.declared.request.fault.ConnectionFault.TheVariants.{Failed};
+ghost use Rattle.http_head.specs.declared.request.ConnectionFault.TheVariants.{Failed};
 ghost use Rattle.http_door.specs.Refusals.{refused};
 ghost use Rattle.http_door.specs.Turns.{Sends};
 

@@ -1,7 +1,7 @@
 //! The event stream of a SUBSCRIBE.
 
 ghost use Rattle.std.specs.Prelude.{◌≡◌, ◌<◌, ◌⊎◌, ℕ, List, OnOk, IsErrOf};
-ghost use Rattle.http_head.specs.declared.request.fault.ConnectionFault.TheVariants.{Failed};
+ghost use Rattle.http_head.specs.declared.request.ConnectionFault.TheVariants.{Failed};
 ghost use Rattle.http_door.specs.Deeds.{Deed, Chain, TurnsSpent};
 ghost use Rattle.http_door.specs.Turns.{TakesEvent, SendsEvents, Streams, ServesStream};
 

@@ -1,7 +1,7 @@
 -- How a request is answered that is refused before its call is read.
 use Rattle.std.specs.Prelude.{ℕ, List, codes}
-use Rattle.http_head.specs.declared.text.status.Status.{Status}
-use Rattle.http_head.specs.declared.text.status.Status.TheVariants.{BadRequest, NotFound, MethodNotAllowed, ContentTooLarge, UnsupportedMediaType}
+use Rattle.http_head.specs.declared.text.Status.{Status}
+use Rattle.http_head.specs.declared.text.Status.TheVariants.{BadRequest, NotFound, MethodNotAllowed, ContentTooLarge, UnsupportedMediaType}
 use Rattle.http_head.specs.declared.fault.RequestFault.{RequestFault}
 use Rattle.http_head.specs.declared.fault.RequestFault.TheVariants.{BadHead, NoSuchPath, NotPost, WrongMedia, TooLong, BadBody}
 

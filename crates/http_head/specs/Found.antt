@@ -7,15 +7,15 @@ use Rattle.http_head.specs.declared.plan.Body.{Body}
 use Rattle.http_head.specs.Lines.{IsTrailers}
 use Rattle.http_head.specs.Parts.{IsBlank}
 use Rattle.http_head.specs.Heads.{max_body, head_check}
-use Rattle.http_head.specs.declared.request.fault.ConnectionFault.{ConnectionFault}
+use Rattle.http_head.specs.declared.request.ConnectionFault.{ConnectionFault}
 use Rattle.http_head.specs.declared.request.part.Part.{Part}
 use Rattle.http_head.specs.declared.request.part.Part.TheVariants as parts
-use Rattle.http_head.specs.declared.request.head.Head.{Head}
-use Rattle.http_head.specs.declared.request.head.Head.TheVariants as heads
-use Rattle.http_head.specs.declared.request.chunks.Step.{Step}
-use Rattle.http_head.specs.declared.request.chunks.Step.TheVariants as steps
-use Rattle.http_head.specs.declared.request.body.Received.{Received}
-use Rattle.http_head.specs.declared.request.body.Received.TheVariants as bodies
+use Rattle.http_head.specs.declared.request.Head.{Head}
+use Rattle.http_head.specs.declared.request.Head.TheVariants as heads
+use Rattle.http_head.specs.declared.request.Step.{Step}
+use Rattle.http_head.specs.declared.request.Step.TheVariants as steps
+use Rattle.http_head.specs.declared.request.Received.{Received}
+use Rattle.http_head.specs.declared.request.Received.TheVariants as bodies
 use Rattle.http_head.specs.Requests.{HasPart, IsOverlong, IsUnended, HasHead, RefusesHead, IsOver}
 use Rattle.http_head.specs.Bodies.{line_end, HasLine, HasChunk, HasEnd, LacksLine, LacksData, LacksTrailers, RefusesChunk, HasBody, RefusesBody}
 

@@ -4,8 +4,8 @@ use Rattle.std.specs.Prelude.{ℕ, List, [], ◌∷◌, ◌++◌, ◌+◌, false
 use Rattle.std.specs.Fmt.{digits}
 use Rattle.frame_record.specs.Records.{record_text}
 use Rattle.names_core.specs.Ids.{Numbered, id_text}
-use Rattle.http_head.specs.declared.text.status.Status.{Status}
-use Rattle.http_head.specs.declared.text.status.Status.TheVariants.{BadRequest, Forbidden, NotFound, MethodNotAllowed, ContentTooLarge, UnsupportedMediaType, ServiceUnavailable}
+use Rattle.http_head.specs.declared.text.Status.{Status}
+use Rattle.http_head.specs.declared.text.Status.TheVariants.{BadRequest, Forbidden, NotFound, MethodNotAllowed, ContentTooLarge, UnsupportedMediaType, ServiceUnavailable}
 
 -- the status line, and the fields that a refusal with this status alone has
 abbrev pub status_lines : Status → List ℕ

@@ -3,12 +3,12 @@ use Rattle.std.proofs.Common.{◌≡◌, ℕ, Bool, Option, Result, Ok, Err, ap,
 use Rattle.std.specs.Prelude.{IfErr, IfOk, OnErr}
 use Rattle.names_core.specs.Ids.{Numbered}
 use Rattle.messages.specs.declared.call.Call.{Call}
-use Rattle.messages.specs.declared.entries.entry.Entry.{Entry}
-use Rattle.messages.specs.declared.steps.step.Step.TheVariants.{Send, Deliver}
+use Rattle.messages.specs.declared.entries.Entry.{Entry}
+use Rattle.messages.specs.declared.steps.Step.TheVariants.{Send, Deliver}
 use Rattle.desk_core.specs.Receipts.{PassState}
 use Rattle.desk_core.specs.declared.desk.pass.Answered.{Answered}
 use Rattle.http_door.specs.declared.bench.Answer.{Answer}
-use Rattle.desk_core.specs.declared.running.given.Given.{Given}
+use Rattle.desk_core.specs.declared.running.Given.{Given}
 use Rattle.http_door.specs.declared.refusal.BenchFault.{BenchFault}
 use Rattle.desk_lock.specs.Answering.{Answers, Refusing, Taking}
 use Rattle.http_serve.specs.Answers.{answer_of, is_subscribe}

@@ -3,7 +3,7 @@ use Rattle.std.specs.Prelude.{◌≡◌, ◌⊎◌, ◌==◌, ◌+◌, ℕ, true
 use Rattle.desk_core.specs.Found.{IsFound}
 use Rattle.desk_core.specs.Receipts.{PassState}
 use Rattle.desk_core.specs.Seats.{DeskState}
-use Rattle.messages.specs.declared.entries.entry.Entry.{Entry}
+use Rattle.messages.specs.declared.entries.Entry.{Entry}
 
 -- the pass by which the office is read, how many connections are taken at most, how many were
 -- taken, and how many failed since the last that was taken

@@ -3,11 +3,11 @@ use Rattle.std.specs.Prelude.{◌≡◌, ◌⊎◌, ◌<◌, true, ℕ, ◌+◌,
 use Rattle.std.specs.declared.alloc.AllocError.{AllocError}
 use Rattle.names_core.specs.Ids.{Numbered}
 use Rattle.messages.specs.declared.call.Call.{Call}
-use Rattle.messages.specs.declared.events.event.Event.{Event}
-use Rattle.messages.specs.declared.entries.entry.Entry.{Entry}
-use Rattle.messages.specs.declared.steps.step.Step.{Step}
-use Rattle.messages.specs.declared.steps.step.Step.TheVariants.{Send, Deliver, HangUp, Take}
-use Rattle.messages.specs.declared.steps.fault.ClusterFault.{ClusterFault}
+use Rattle.messages.specs.declared.events.Event.{Event}
+use Rattle.messages.specs.declared.entries.Entry.{Entry}
+use Rattle.messages.specs.declared.steps.Step.{Step}
+use Rattle.messages.specs.declared.steps.Step.TheVariants.{Send, Deliver, HangUp, Take}
+use Rattle.messages.specs.declared.steps.ClusterFault.{ClusterFault}
 use Rattle.desk_core.specs.Receipts.{PassState}
 use Rattle.desk_core.specs.declared.desk.pass.Answered.{Answered}
 use Rattle.desk_core.specs.declared.fault.OfficeFault.{OfficeFault}
@@ -16,7 +16,7 @@ use Rattle.http_door.specs.declared.bench.Answer.{Answer}
 use Rattle.http_door.specs.declared.bench.Answer.TheVariants.{Refused}
 use Rattle.http_door.specs.declared.refusal.BenchFault.{BenchFault}
 use Rattle.http_door.specs.declared.refusal.BenchFault.TheVariants.{NoStreamLeft, NoSuchMail, OutOfMemory}
-use Rattle.desk_core.specs.declared.running.given.Given.{Given}
+use Rattle.desk_core.specs.declared.running.Given.{Given}
 use Rattle.desk_lock.specs.Answering.{Answers, Refusing, Taking}
 use Rattle.http_serve.specs.Answers.{answer_of, bench_fault, is_subscribe}
 

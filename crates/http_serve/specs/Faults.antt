@@ -1,7 +1,7 @@
 -- What a fault that ends the serving says of the connections.
 use Rattle.std.specs.Prelude.{ℕ}
-use Rattle.http_serve.specs.declared.workers.fault.HttpFault.{HttpFault}
-use Rattle.http_serve.specs.declared.workers.fault.HttpFault.TheVariants.{OutOfMemory, NoThread}
+use Rattle.http_serve.specs.declared.workers.HttpFault.{HttpFault}
+use Rattle.http_serve.specs.declared.workers.HttpFault.TheVariants.{OutOfMemory, NoThread}
 
 -- how many connections were taken since the last that got a worker: none where memory was refused,
 -- and one where its thread was

@@ -1,9 +1,9 @@
 -- What the bench of a connection did.
 use Rattle.std.specs.Prelude.{◌≡◌, List, Option, Some, None}
 use Rattle.desk_core.specs.Receipts.{PassState}
-use Rattle.messages.specs.declared.entries.entry.Entry.{Entry}
+use Rattle.messages.specs.declared.entries.Entry.{Entry}
 use Rattle.http_door.specs.Deeds.{Deed}
-use Rattle.messages.specs.declared.steps.fault.ClusterFault.{ClusterFault}
+use Rattle.messages.specs.declared.steps.ClusterFault.{ClusterFault}
 use Rattle.desk_core.specs.Found.{IsNextSeat, IsRefusedSeat}
 use Rattle.desk_core.specs.declared.fault.OfficeFault.{OfficeFault}
 use Rattle.desk_lock.specs.Answering.{Refusing as Refusals, Taking}

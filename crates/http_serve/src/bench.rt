@@ -1,15 +1,15 @@
 //! A seat of an office, as the bench of a connection.
 
 ghost use Rattle.std.specs.Prelude.{◌≡◌, ◌⊎◌, true, None, OnErr, IfOk, IfErr, MatchOption};
-ghost use Rattle.messages.specs.declared.steps.step.Step.TheVariants.{Send, Deliver, Take};
+ghost use Rattle.messages.specs.declared.steps.Step.TheVariants.{Send, Deliver, Take};
 ghost use Rattle.desk_core.specs.declared.desk.pass.Answered.{Answered as Got};
-ghost use Rattle.messages.specs.declared.entries.entry.Entry.{Entry};
-ghost use Rattle.messages.specs.declared.steps.fault.ClusterFault.{ClusterFault as StepFault};
+ghost use Rattle.messages.specs.declared.entries.Entry.{Entry};
+ghost use Rattle.messages.specs.declared.steps.ClusterFault.{ClusterFault as StepFault};
 ghost use Rattle.desk_core.specs.declared.fault.OfficeFault.{OfficeFault as Refusal};
 ghost use Rattle.http_door.specs.declared.refusal.BenchFault.TheVariants.{OutOfMemory};
 ghost use Rattle.http_serve.specs.Answers.{answer_of, is_subscribe};
 ghost use Rattle.http_serve.specs.Deeds.{Asks, Delivers, Does, Fails, FailsSend, IsRefused, TurnsAway, call_number};
-ghost use Rattle.desk_core.specs.declared.running.given.Given.{Given as GivenSo};
+ghost use Rattle.desk_core.specs.declared.running.Given.{Given as GivenSo};
 ghost use Rattle.desk_lock.specs.Answering.{Answers};
 ghost use Rattle.desk_lock.specs.Waits.{StreamEnds};
 
@@ -41,7 +41,7 @@ pub struct SeatBench<'a, D: Running, L: ledger::Ledger, R: Wait> {
 
 impl<'a, D: Running, L: ledger::Ledger, R: Wait> Model for SeatBench<'a, D, L, R> {
     ghost use Rattle.desk_core.specs.Receipts.{PassState};
-    ghost use Rattle.messages.specs.declared.entries.entry.Entry.{Entry};
+    ghost use Rattle.messages.specs.declared.entries.Entry.{Entry};
 
     ghost Value = { PassState Entry };
 

@@ -23,8 +23,8 @@ use Rattle.keep_store.specs.SavesKept.{IsPut, Rise, AreRowsOf, body_in, head_in_
 use Rattle.keep_store.specs.Kept.{AreTasksOf, SomeUnreadable, IsDamaged, HoldsText, shown_body}
 use Rattle.keep_tables.specs.Columns.{Gives}
 use Rattle.keep_tables.specs.Tables.{Shows, amount_shown, head_of, task_shown}
-use Rattle.keep_tables.specs.declared.rows.fault.KeepFault.{KeepFault}
-use Rattle.keep_tables.specs.declared.rows.fault.KeepFault.TheVariants as fault
+use Rattle.keep_tables.specs.declared.rows.KeepFault.{KeepFault}
+use Rattle.keep_tables.specs.declared.rows.KeepFault.TheVariants as fault
 use Rattle.keep_tables.proofs.QueryLemmas.{has_permuted}
 use Rattle.keep_store.proofs.MoveLemmas.{no_amount_shown}
 use Rattle.keep_store.proofs.TaskLemmas.{tells_all}

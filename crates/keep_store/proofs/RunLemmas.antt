@@ -7,7 +7,7 @@ use Rattle.keep_store.specs.SavesKept.{kept_in, with_last}
 use Rattle.keep_store.specs.Stops.{LeavesEither}
 use Rattle.keep_store.specs.Kept.{with_run}
 use Rattle.keep_tables.specs.Tables.{IsReady, Stays}
-use Rattle.keep_tables.specs.declared.rows.fault.KeepFault.{KeepFault}
+use Rattle.keep_tables.specs.declared.rows.KeepFault.{KeepFault}
 
 pub on_any : (r : Result ℕ KeepFault) {P : Type 0} → P → OnOk r P
 on_any (Ok n) h = h

@@ -13,7 +13,7 @@ ghost use Rattle.keep_store.specs.SavesKept.{kept_in, with_record};
 ghost use Rattle.keep_store.specs.Kept.{StillKeeps, first_kept, nothing, second_kept, with_run, HoldsText, IsDamaged, IsLoaded, HoldsRun, HoldsNoRun, run_in, shown_body, shown_last};
 ghost use Rattle.keep_store.specs.Stops.{LeavesEither, Stands};
 ghost use Rattle.keep_tables.specs.Tables.{HasKnownTables, IsKnown, IsReady, Stays, first_schema, second_schema, no_schema};
-ghost use Rattle.keep_tables.specs.declared.rows.fault.KeepFault.TheVariants as faults;
+ghost use Rattle.keep_tables.specs.declared.rows.KeepFault.TheVariants as faults;
 
 use crate::check::prepare;
 use crate::reading::record_shown;

@@ -15,7 +15,7 @@ ghost use Rattle.event_json.specs.Written.{IsTask, IsDurable};
 ghost use Rattle.keep_store.specs.SavesKept.{IsPut, kept_in, read_back, own_in_row, total_by, head_in_row, with_tasks};
 ghost use Rattle.keep_store.specs.Kept.{IsDamaged, IsLoaded, HoldsText, AreTasksOf, SomeUnreadable};
 ghost use Rattle.keep_tables.specs.Tables.{Shows};
-ghost use Rattle.keep_tables.specs.declared.rows.fault.KeepFault.TheVariants as faults;
+ghost use Rattle.keep_tables.specs.declared.rows.KeepFault.TheVariants as faults;
 
 use crate::record::{first_body, of_an_agent, record_in};
 use agent_core::{Record, keys_rise};

@@ -4,8 +4,8 @@ use Rattle.std.specs.Str.{is_utf8}
 use Rattle.sqlite.specs.declared.types.Value.{Value}
 use Rattle.sqlite.specs.declared.types.Value.TheVariants.{Int, Text}
 use Rattle.quantity.specs.Rows.{greatest_amount}
-use Rattle.keep_tables.specs.declared.rows.fault.KeepFault.{KeepFault}
-use Rattle.keep_tables.specs.declared.rows.fault.KeepFault.TheVariants as fault
+use Rattle.keep_tables.specs.declared.rows.KeepFault.{KeepFault}
+use Rattle.keep_tables.specs.declared.rows.KeepFault.TheVariants as fault
 
 -- a whole number of 32 bits
 abbrev pub number_at : Value → Option ℕ

@@ -15,8 +15,8 @@ use Rattle.sqlite.specs.Schema.{Schema}
 use Rattle.sqlite.specs.declared.error.Error.{Error}
 use Rattle.sqlite.specs.declared.error.Error.TheVariants.{SqliteFailure}
 use Rattle.sqlite.specs.declared.error.ErrorCode.TheVariants.{OutOfMemory}
-use Rattle.keep_tables.specs.declared.rows.fault.KeepFault.{KeepFault}
-use Rattle.keep_tables.specs.declared.rows.fault.KeepFault.TheVariants as fault
+use Rattle.keep_tables.specs.declared.rows.KeepFault.{KeepFault}
+use Rattle.keep_tables.specs.declared.rows.KeepFault.TheVariants as fault
 use Rattle.names_core.specs.Ids.{Numbered}
 pub use Rattle.keep_tables.specs.Schemas.{column_of, id_check, no_stamps, lone_table, record_columns, run_columns, head_columns, task_columns, total_columns, record_table, run_table, head_table, task_table, task_index, total_table, total_index, keeper_schema, second_schema, first_schema, no_schema, HasKnownTables}
 

@@ -2,8 +2,6 @@
 //! whether a schema is that of these.
 #![tactic(auto)]
 
-mod rows;
-
 ghost use Rattle.std.specs.Prelude.{◌≡◌, ◌<◌, ◌↔◌, ◌∷◌, [], ℕ, IsTrue, IfNone, IfSome, List, None, Some, codes, false, true, length, pos, slice_get};
 ghost use Rattle.sqlite_schema.specs.Code.{terms_in};
 ghost use Rattle.sqlite.specs.Kind.TheVariants.{Integer, Text as Words};
@@ -14,6 +12,8 @@ ghost use Rattle.sqlite_sql.specs.declared.ops.BinaryOp.TheVariants.{Compare};
 ghost use Rattle.sqlite_sql.specs.declared.ops.CompareOp.TheVariants.{Eq};
 ghost use Rattle.sqlite.specs.Collation.TheVariants.{Binary};
 ghost use Rattle.keep_tables.specs.Schemas.{no_schema, first_schema, second_schema, keeper_schema, lone_table, record_table, run_table, head_table, task_table, task_index, total_table, total_index, head_columns, task_columns, total_columns, column_of, index_of, id_check, no_stamps, id_column};
+
+mod rows;
 
 pub use rows::{
     KeepFault, Rows, amount_at, changes, corrupt, fault_of, number_at, read_rows, statements,

@@ -24,7 +24,7 @@ use Rattle.offer_tables.specs.Found.{place}
 use Rattle.master_calls.specs.Holding.{first_at, is_of_name}
 use Rattle.master_agents.specs.Looks.{all_placed}
 use Rattle.master_state.specs.declared.state.State.{State}
-use Rattle.messages.specs.declared.events.stream_event.StreamEvent.{StreamEvent}
+use Rattle.messages.specs.declared.events.StreamEvent.{StreamEvent}
 use Rattle.master_state.specs.States.{task_state_sent}
 use Rattle.master_state.specs.Works.{master_of}
 use Rattle.master_calls.specs.Accepts.{Bench, Caller, bench, held_task, is_covered, launches, loses_as, loses_one, new_task, no_progress, takes_as, takes_one}

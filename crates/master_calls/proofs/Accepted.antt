@@ -33,7 +33,7 @@ use Rattle.master_agents.specs.declared.own.GoodOffers.{GoodOffers}
 use Rattle.master_state.specs.declared.state.State.{State}
 use Rattle.master_state.specs.declared.fault.MasterFault.{MasterFault}
 use Rattle.master_state.specs.declared.fault.MasterFault.TheVariants.{OutOfMemory, Refused}
-use Rattle.messages.specs.declared.events.stream_event.StreamEvent.{StreamEvent}
+use Rattle.messages.specs.declared.events.StreamEvent.{StreamEvent}
 use Rattle.master_state.specs.States.{without_offers}
 use Rattle.master_state.specs.Works.{Gave, Work, admission, admission_of, done, master_of, registers_of, run_of, work_of}
 use Rattle.master_state.proofs.Admissions.{Admitted, admits}

@@ -13,7 +13,7 @@ use Rattle.cluster_model.specs.Events.{Event, update_event}
 use Rattle.cluster_model.specs.Masters.{Master, Placed, all_booked, held, on_stream, put_placed, saying}
 use Rattle.cluster_model.specs.Calls.{answers, answers_held, call_effect, is_awaited, is_live_of, on_reconcile, reconciles, reconciles_as}
 use Rattle.master_state.specs.declared.state.State.{State}
-use Rattle.messages.specs.declared.events.stream_event.StreamEvent.{StreamEvent}
+use Rattle.messages.specs.declared.events.StreamEvent.{StreamEvent}
 use Rattle.master_state.specs.States.{task_state_sent}
 use Rattle.master_state.specs.Works.{admission, done, master_of, work_of}
 use Rattle.master_state.proofs.Admissions.{Admitted, admits}

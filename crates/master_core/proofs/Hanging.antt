@@ -13,7 +13,7 @@ use Rattle.master_state.proofs.Ordered.{AllBehind, put_changed}
 use Rattle.master_agents.specs.Configs.{are_ordered}
 use Rattle.master_agents.specs.Joined.{side_names}
 use Rattle.master_state.specs.declared.state.State.{State}
-use Rattle.messages.specs.declared.events.stream_event.StreamEvent.{StreamEvent}
+use Rattle.messages.specs.declared.events.StreamEvent.{StreamEvent}
 use Rattle.master_state.specs.States.{closed, without_offers}
 use Rattle.master_state.specs.Works.{Work, done, master_of, run_of, work_of}
 use Rattle.master_state.proofs.Doings.{none_more}

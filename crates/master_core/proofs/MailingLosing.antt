@@ -8,7 +8,7 @@ use Rattle.cluster_model.specs.Sides.{Lose, SendHello, Side, lost}
 use Rattle.names_core.specs.Ids.{Numbered}
 use Rattle.master_agents.specs.Looks.{value_of}
 use Rattle.master_state.specs.declared.state.State.{State}
-use Rattle.messages.specs.declared.events.stream_event.StreamEvent.{StreamEvent}
+use Rattle.messages.specs.declared.events.StreamEvent.{StreamEvent}
 use Rattle.master_state.specs.Works.{Work, done, master_of, registers_of, work_of}
 use Rattle.master_state.proofs.Doings.{none_more, nothing_done, with_moves}
 use Rattle.master_state.proofs.Greeting.{changes_silently, greets}

@@ -18,7 +18,7 @@ use Rattle.cluster_model.specs.Sides.{SendEnd, Side, issue, sends_nothing, side_
 use Rattle.roster.specs.Sessions.{with_command}
 use Rattle.master_agents.specs.Looks.{at_name, next_command, value_of}
 use Rattle.master_state.specs.declared.state.State.{State}
-use Rattle.messages.specs.declared.events.stream_event.StreamEvent.{StreamEvent}
+use Rattle.messages.specs.declared.events.StreamEvent.{StreamEvent}
 use Rattle.master_state.specs.States.{ordered_as}
 use Rattle.master_state.specs.Works.{Work, done, master_of, registers_of, run_of, work_of}
 use Rattle.master_state.proofs.Doings.{none_more, with_moves}

@@ -8,7 +8,7 @@ use Rattle.quantity.specs.Rows.{AreRows, covers}
 use Rattle.quantity.proofs.Amounts.{amount-append, covers_is_at_least}
 use Rattle.quantity.proofs.Rests.{rests_are_less}
 use Rattle.messages.specs.declared.task.Offer.{Offer}
-use Rattle.messages.specs.declared.events.offer.SentOffer as json_offer
+use Rattle.messages.specs.declared.events.SentOffer as json_offer
 use Rattle.messages.specs.declared.mail.ToAgent.{ToAgent}
 use Rattle.cluster_model.specs.Ids.{bytes_before, following}
 use Rattle.cluster_model.specs.Sides.{MakeOffer, Run, Side, may_offer, offered, sends_nothing, taken}

@@ -8,8 +8,8 @@ use Rattle.std.proofs.lemmas.List.Elements.{All-head, All-tail, All-more, All-we
 use Rattle.std.proofs.lemmas.List.Sorted.{All-permutation, IsPermutation-sym}
 use Rattle.names_core.specs.Ids.{Numbered, same, before}
 use Rattle.messages.specs.declared.framework.Framework.{Framework}
-use Rattle.messages.specs.declared.events.offer.SentOffer.{SentOffer}
-use Rattle.messages.specs.declared.events.stream_event.StreamEvent.{StreamEvent}
+use Rattle.messages.specs.declared.events.SentOffer.{SentOffer}
+use Rattle.messages.specs.declared.events.StreamEvent.{StreamEvent}
 use Rattle.master_state.specs.Frameworks.{are_ordered, place_of}
 use Rattle.master_state.proofs.Ordered.{AllBehind, both_true}
 use Rattle.master_state.proofs.Placed.{all_at}

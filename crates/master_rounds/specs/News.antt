@@ -3,14 +3,14 @@ use Rattle.std.specs.Prelude.{◌≡◌, ⊤, ℕ, true, false, List, [], ◌∷
 use Rattle.names_core.specs.Ids.{Numbered, same}
 use Rattle.messages.specs.declared.framework.Framework.{Framework}
 use Rattle.messages.specs.declared.task.Offer as mails_offer
-use Rattle.messages.specs.declared.events.event.Event.TheVariants as events
-use Rattle.messages.specs.declared.events.offer.SentOffer as json_offer
+use Rattle.messages.specs.declared.events.Event.TheVariants as events
+use Rattle.messages.specs.declared.events.SentOffer as json_offer
 use Rattle.cluster_model.specs.Sides.{Side}
 use Rattle.master_state.specs.Frameworks.{place_of}
 use Rattle.master_agents.specs.Changes.{offering}
 use Rattle.master_agents.specs.Looks.{at_name, value_of}
 use Rattle.master_agents.specs.Taking.{fits, is_offered}
-use Rattle.messages.specs.declared.events.stream_event.StreamEvent.{StreamEvent}
+use Rattle.messages.specs.declared.events.StreamEvent.{StreamEvent}
 
 abbrev pub plain : json_offer.SentOffer → mails_offer.Offer
 plain o = record { id = o.id; framework = o.framework; resources = o.resources }

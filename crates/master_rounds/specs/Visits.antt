@@ -3,7 +3,7 @@ use Rattle.std.specs.Prelude.{◌≡◌, ⊤, ℕ, suc, ◌||◌, nat_lt, if◌t
 use Rattle.names_core.specs.Ids.{Numbered}
 use Rattle.quantity.specs.declared.rows.Row.{Row}
 use Rattle.messages.specs.declared.framework.Framework.{Framework}
-use Rattle.messages.specs.declared.events.offer.SentOffer as json_offer
+use Rattle.messages.specs.declared.events.SentOffer as json_offer
 use Rattle.names_core.specs.Weights.{RoleWeight}
 use Rattle.cluster_model.specs.Ids.{is_empty, last_number}
 use Rattle.cluster_model.specs.Sides.{Side}

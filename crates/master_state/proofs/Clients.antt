@@ -11,7 +11,7 @@ use Rattle.drf_pick.specs.declared.holder.Client.{Client}
 use Rattle.drf_pick.specs.Shown.{AreCounted}
 use Rattle.master_state.specs.Frameworks.{KeepsId, are_ordered, ids_of, place_of, roles_of}
 use Rattle.master_state.specs.LastRound.{IsOfFirst, client_of, clients_of}
-use Rattle.master_state.specs.declared.registry.last_round.RoundCache.{RoundCache}
+use Rattle.master_state.specs.declared.registry.RoundCache.{RoundCache}
 use Rattle.master_state.proofs.Ordered.{both_true, ids_set, put_at, put_later}
 use Rattle.master_state.proofs.Leading.{same_itself}
 use Rattle.master_state.proofs.OneRole.{KeepsRole, roles_set}

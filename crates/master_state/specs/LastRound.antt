@@ -3,7 +3,7 @@ use Rattle.std.specs.Prelude.{List, map, take, IfSome}
 use Rattle.messages.specs.declared.framework.Framework.{Framework}
 use Rattle.drf_pick.specs.declared.holder.Client.{Client}
 use Rattle.drf_pick.specs.Shown.{AreCounted}
-use Rattle.master_state.specs.declared.registry.last_round.RoundCache.{RoundCache}
+use Rattle.master_state.specs.declared.registry.RoundCache.{RoundCache}
 
 abbrev pub client_of : Framework → Client
 client_of f = record { framework = f.id; role = f.role }

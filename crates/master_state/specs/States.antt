@@ -6,13 +6,13 @@ use Rattle.messages.specs.declared.task.Offer.{Offer}
 use Rattle.messages.specs.declared.mail.Command.{Command}
 use Rattle.messages.specs.declared.mail.MasterMail.TheVariants.{Issued}
 use Rattle.messages.specs.declared.mail.ToAgent.{ToAgent}
-use Rattle.messages.specs.declared.events.event.Event.{Event}
+use Rattle.messages.specs.declared.events.Event.{Event}
 use Rattle.cluster_model.specs.Events.{update_event}
 use Rattle.roster.specs.Sessions.{with_command}
 use Rattle.master_agents.specs.declared.config.ConfiguredAgent.{ConfiguredAgent}
 use Rattle.master_agents.specs.Changes.{side_of}
 use Rattle.master_agents.specs.Looks.{at_name, next_command, value_of, withdrawing}
-pub use Rattle.messages.specs.declared.events.stream_event.StreamEvent.{StreamEvent}
+pub use Rattle.messages.specs.declared.events.StreamEvent.{StreamEvent}
 pub use Rattle.master_state.specs.declared.state.Outs.{Outs}
 pub use Rattle.master_state.specs.declared.state.State.{State}
 

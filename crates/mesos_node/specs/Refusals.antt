@@ -1,7 +1,7 @@
 -- Why a cluster isn't served.
 use Rattle.std.specs.Prelude.{Bool, true, false}
-use Rattle.step_text.specs.declared.agents.fault.AgentsFault.{AgentsFault}
-use Rattle.step_text.specs.declared.agents.fault.AgentsFault.TheVariants.{Lines, Config}
+use Rattle.step_text.specs.declared.agents.AgentsFault.{AgentsFault}
+use Rattle.step_text.specs.declared.agents.AgentsFault.TheVariants.{Lines, Config}
 use Rattle.keep_folder.specs.declared.folder_fault.FolderFault.TheVariants.{TotalDiffers}
 use Rattle.mesos_node.specs.declared.fault.ServeFault.{ServeFault}
 use Rattle.mesos_node.specs.declared.fault.ServeFault.TheVariants.{Agents, Folder}

@@ -2,7 +2,6 @@
 #![tactic(auto)]
 
 mod call;
-mod cause;
 mod entries;
 mod events;
 mod framework;
@@ -12,8 +11,7 @@ mod refusal;
 mod steps;
 mod task;
 
-pub use call::{Call, ReconciledTask, TaskInfo};
-pub use cause::{Cause, ExecutorState};
+pub use call::{Call, Cause, ExecutorState, ReconciledTask, TaskInfo};
 pub use entries::{Entry, Outputs};
 pub use events::{Event, Message, Offers, SentOffer, StreamEvent, TaskStatus};
 pub use framework::{Filter, Framework};

@@ -23,7 +23,7 @@ pub enum Command {
 impl Plain for Command {
     ghost use Rattle.messages.specs.contracts.task.JobPlain.TheImpl.Laws.{decided-law as job_decided};
     ghost use Rattle.messages.specs.declared.mail.Command.TheVariants.{Ack, EndFramework, Kill, Launch};
-    ghost use Rattle.names_core.specs.contracts.offer.OfferIdPlain.TheImpl.Laws.{decided-law as offer_decided};
+    ghost use Rattle.names_core.specs.contracts.ids.OfferIdPlain.TheImpl.Laws.{decided-law as offer_decided};
     ghost use Rattle.values.specs.Deciding.{and_decides};
     ghost use Rattle.std.specs.Cmp.Lexicographic.{pointwise_decides};
 
@@ -116,7 +116,7 @@ impl Plain for AgentMail {
     ghost use Rattle.messages.specs.declared.mail.AgentMail.TheVariants.{Applied, Report, Update};
     ghost use Rattle.quantity.specs.contracts.resources.ResourcesPlain.TheImpl.Laws.{decided-law as resources_decided};
     ghost use Rattle.values.specs.Deciding.{and_decides};
-    ghost use Rattle.names_core.specs.contracts.launch.LaunchKeyPlain.TheImpl.Laws.{decided-law as key_decided};
+    ghost use Rattle.names_core.specs.contracts.ids.LaunchKeyPlain.TheImpl.Laws.{decided-law as key_decided};
     ghost use Rattle.names_core.specs.contracts.state.TaskStatePlain.TheImpl.Laws.{decided-law as state_decided};
     ghost use Rattle.std.specs.Cmp.{booleans_Decides, unsigned_Decides};
     ghost use Rattle.std.specs.Cmp.Lexicographic.{pointwise_decides};

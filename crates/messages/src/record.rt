@@ -19,7 +19,7 @@ pub struct RecordedTask {
 
 impl Plain for RecordedTask {
     ghost use Rattle.messages.specs.contracts.task.JobPlain.TheImpl.Laws.{decided-law as job_decided};
-    ghost use Rattle.names_core.specs.contracts.offer.OfferIdPlain.TheImpl.Laws.{decided-law as offer_decided};
+    ghost use Rattle.names_core.specs.contracts.ids.OfferIdPlain.TheImpl.Laws.{decided-law as offer_decided};
     ghost use Rattle.stream_core.specs.contracts.updates.UpdatesPlain.TheImpl.Laws.{decided-law as updates_decided};
     ghost use Rattle.values.specs.Deciding.{and_decides};
     ghost use Rattle.std.specs.Cmp.Lexicographic.{pointwise_decides};

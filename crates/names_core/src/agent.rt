@@ -3,8 +3,7 @@
 ghost use Rattle.std.specs.Prelude.{◌≡◌, ◌↔◌, ◌⊎◌, true, false, bytes_eq, IfOk, IfErr, string_bytes};
 ghost use Rattle.names_core.specs.Names.{is_name, is_configured, bytes_before};
 
-use crate::fault::NameFault;
-use crate::name::{is_configured_name, is_plain_name, is_text_before, name_number};
+use crate::names::{NameFault, is_configured_name, is_plain_name, is_text_before, name_number};
 use std::alloc::{AllocError, Global};
 use std::fmt;
 use std::hash::{Hash, Hasher};

@@ -4,8 +4,8 @@ ghost use Rattle.std.specs.Prelude.{◌≡◌, ◌↔◌, ◌<◌, ◌⊎◌, If
 ghost use Rattle.base64.specs.GeneralPurpose.{IsBytes};
 ghost use Rattle.names_core.specs.Updates.{Update, IsUpdate, update_bytes, update_in, update_text, update_of};
 
-use crate::fault::NameFault;
-use crate::launch::LaunchKey;
+use crate::ids::LaunchKey;
+use crate::names::NameFault;
 use base64::DecodeAllocError;
 use base64::engine::general_purpose::STANDARD;
 use std::alloc::Global;

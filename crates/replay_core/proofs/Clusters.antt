@@ -11,14 +11,14 @@ use Rattle.quantity.specs.declared.rows.Row.{Row}
 use Rattle.cluster_channels.specs.Numbers.{is_number}
 use Rattle.cluster_model.specs.Channels.{Channel}
 use Rattle.cluster_model.specs.Clusters.{master_of}
-use Rattle.messages.specs.declared.steps.fault.ClusterFault.{ClusterFault}
+use Rattle.messages.specs.declared.steps.ClusterFault.{ClusterFault}
 use Rattle.cluster_model.specs.Steps.{Done, Marked, entry_of, marked_of, open_cluster, step_marked, unmarked}
 use Rattle.master_core.specs.Steps.{offered_on}
 use Rattle.cluster_laws.specs.Parts.{parts_of}
-use Rattle.messages.specs.declared.entries.entry.Entry.{Entry}
-use Rattle.messages.specs.declared.entries.entry.Outputs.{Outputs}
-use Rattle.messages.specs.declared.steps.fault.ClusterFault.TheVariants as faults
-use Rattle.messages.specs.declared.steps.step.Step.{Step}
+use Rattle.messages.specs.declared.entries.Entry.{Entry}
+use Rattle.messages.specs.declared.entries.Outputs.{Outputs}
+use Rattle.messages.specs.declared.steps.ClusterFault.TheVariants as faults
+use Rattle.messages.specs.declared.steps.Step.{Step}
 use Rattle.messages.specs.Verdicts.{fell}
 use Rattle.cluster_agents.specs.Agents.{recorded}
 use Rattle.cluster_core.specs.Keeping.{IsRefused, IsTaken, WithheldFrom, offered_in}

@@ -1,7 +1,7 @@
 -- What comes of a step.
 use Rattle.std.specs.Prelude.{ℕ, List, [], length, Result, Ok, Err, unwrap_or}
-use Rattle.messages.specs.declared.entries.entry.Entry.{Entry}
-use Rattle.messages.specs.declared.steps.fault.ClusterFault.{ClusterFault}
+use Rattle.messages.specs.declared.entries.Entry.{Entry}
+use Rattle.messages.specs.declared.steps.ClusterFault.{ClusterFault}
 use Rattle.step_text.specs.EntriesLines.{entry_text, refused_text}
 use Rattle.cluster_core.specs.Stories.{Story, with_entry}
 

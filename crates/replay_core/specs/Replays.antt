@@ -1,9 +1,9 @@
 -- What a replay writes for its lines.
 use Rattle.std.specs.Prelude.{ℕ, ◌+◌, ◌==◌, ◌&&◌, ◌||◌, not, Bool, List, [], length, nat_le, is_some, Option, Some, None, Result, Ok, Err, if◌then◌else◌}
 use Rattle.std.specs.List.{list_all}
-use Rattle.messages.specs.declared.steps.step.Step.{Step}
-use Rattle.step_text.specs.declared.lines.fault.LineRefusal.{LineRefusal}
-use Rattle.step_text.specs.declared.lines.fault.LineRefusal.TheVariants.{BadConfig}
+use Rattle.messages.specs.declared.steps.Step.{Step}
+use Rattle.step_text.specs.declared.lines.LineRefusal.{LineRefusal}
+use Rattle.step_text.specs.declared.lines.LineRefusal.TheVariants.{BadConfig}
 use Rattle.step_text.specs.Configs.{Configured, read_config}
 use Rattle.step_text.specs.Lines.{longest_line, read_step}
 use Rattle.step_text.specs.EntriesLines.{opening_text}

@@ -6,11 +6,11 @@ use Rattle.master_agents.specs.declared.config.ConfiguredAgent.{ConfiguredAgent}
 use Rattle.names_core.specs.Weights.{RoleWeight}
 use Rattle.master_core.specs.Steps.{offered_on}
 use Rattle.cluster_model.specs.Clusters.{master_of}
-use Rattle.messages.specs.declared.steps.fault.ClusterFault.{ClusterFault}
+use Rattle.messages.specs.declared.steps.ClusterFault.{ClusterFault}
 use Rattle.cluster_model.specs.Steps.{Done, entry_of, open_cluster, step_marked, unmarked}
-use Rattle.messages.specs.declared.entries.entry.Entry.{Entry}
-use Rattle.messages.specs.declared.steps.verdict.Sent.{Sent}
-use Rattle.messages.specs.declared.steps.step.Step.{Step}
+use Rattle.messages.specs.declared.entries.Entry.{Entry}
+use Rattle.messages.specs.declared.steps.Sent.{Sent}
+use Rattle.messages.specs.declared.steps.Step.{Step}
 use Rattle.cluster_agents.specs.Fresh.{fresh_records}
 use Rattle.cluster_core.specs.declared.taken.Taken.{Taken}
 use Rattle.cluster_core.specs.Stories.{Story, state_of}

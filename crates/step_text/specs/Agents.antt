@@ -4,9 +4,9 @@ use Rattle.std.specs.List.{list_any}
 use Rattle.step_text.specs.Configs.{Configured, read_config}
 use Rattle.step_text.specs.Configurations.{configured_by}
 use Rattle.master_agents.specs.declared.config.Config.{Config}
-use Rattle.step_text.specs.declared.lines.fault.LineRefusal.{LineRefusal}
-use Rattle.step_text.specs.declared.agents.fault.AgentsFault.{AgentsFault}
-use Rattle.step_text.specs.declared.agents.fault.AgentsFault.TheVariants as faults
+use Rattle.step_text.specs.declared.lines.LineRefusal.{LineRefusal}
+use Rattle.step_text.specs.declared.agents.AgentsFault.{AgentsFault}
+use Rattle.step_text.specs.declared.agents.AgentsFault.TheVariants as faults
 
 -- the text is this one line, whose line feed may lack
 abbrev pub IsLine : List ℕ → List ℕ → Type 0

@@ -1,9 +1,9 @@
 -- What reading a line answers.
 use Rattle.std.specs.Prelude.{◌≡◌, Option, Some, None, Result, Ok, Err}
-use Rattle.step_text.specs.declared.lines.fault.LineRefusal.{LineRefusal}
-use Rattle.step_text.specs.declared.lines.fault.LineRefusal.TheVariants.{NotAStep}
-use Rattle.step_text.specs.declared.lines.fault.LineFault.{LineFault}
-use Rattle.step_text.specs.declared.lines.fault.LineFault.TheVariants as faults
+use Rattle.step_text.specs.declared.lines.LineRefusal.{LineRefusal}
+use Rattle.step_text.specs.declared.lines.LineRefusal.TheVariants.{NotAStep}
+use Rattle.step_text.specs.declared.lines.LineFault.{LineFault}
+use Rattle.step_text.specs.declared.lines.LineFault.TheVariants as faults
 
 -- what comes next, where a value is there
 infixl 10 ◌>>=◌

@@ -10,8 +10,8 @@ use Rattle.names_core.specs.Weights.{RoleWeight, greatest_weight, with_weight}
 use Rattle.call_json.specs.Trim.{trim}
 use Rattle.master_agents.specs.Configs.{has_name, most_agents, with_agent}
 use Rattle.master_agents.specs.declared.config.ConfiguredAgent.{ConfiguredAgent}
-use Rattle.step_text.specs.declared.lines.fault.LineRefusal.{LineRefusal}
-use Rattle.step_text.specs.declared.lines.fault.LineRefusal.TheVariants.{BadConfig}
+use Rattle.step_text.specs.declared.lines.LineRefusal.{LineRefusal}
+use Rattle.step_text.specs.declared.lines.LineRefusal.TheVariants.{BadConfig}
 use Rattle.step_text.specs.Answers.{◌>>=◌, or_refused}
 use Rattle.step_text.specs.Members.{where_true, has_members}
 use Rattle.step_text.specs.Totals.{total_of}

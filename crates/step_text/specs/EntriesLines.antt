@@ -4,13 +4,13 @@ use Rattle.std.specs.List.{flat_map}
 use Rattle.names_core.specs.Ids.{Numbered, id_text}
 use Rattle.event_json.specs.Events.{event_text}
 use Rattle.event_json.specs.Mails.{to_agent_form, to_master_form}
-use Rattle.messages.specs.declared.events.stream_event.StreamEvent.{StreamEvent}
-use Rattle.messages.specs.declared.steps.verdict.Sent.{Sent}
-use Rattle.messages.specs.declared.steps.verdict.Sent.TheVariants.{Call, ToAgent, ToMaster}
-use Rattle.messages.specs.declared.entries.entry.Outputs.{Outputs}
-use Rattle.messages.specs.declared.entries.entry.Entry.{Entry}
-use Rattle.messages.specs.declared.steps.step.Step.{Step}
-use Rattle.messages.specs.declared.steps.fault.ClusterFault.{ClusterFault}
+use Rattle.messages.specs.declared.events.StreamEvent.{StreamEvent}
+use Rattle.messages.specs.declared.steps.Sent.{Sent}
+use Rattle.messages.specs.declared.steps.Sent.TheVariants.{Call, ToAgent, ToMaster}
+use Rattle.messages.specs.declared.entries.Outputs.{Outputs}
+use Rattle.messages.specs.declared.entries.Entry.{Entry}
+use Rattle.messages.specs.declared.steps.Step.{Step}
+use Rattle.messages.specs.declared.steps.ClusterFault.{ClusterFault}
 use Rattle.step_text.specs.Words.{step_word, verdict_text}
 use Rattle.messages.specs.Faults.{fault_text}
 

@@ -1,10 +1,10 @@
 -- What is read of the file of the agents.
 use Rattle.std.specs.Prelude.{◌⊎◌, List, ℕ, Result, Ok, Err}
 use Rattle.step_text.specs.Agents.{Says}
-use Rattle.step_text.specs.declared.agents.fault.AgentsFault.{AgentsFault}
-use Rattle.step_text.specs.declared.agents.fault.AgentsFault.TheVariants.{File}
-use Rattle.step_text.specs.declared.agents.file.AgentsFile.{AgentsFile}
-use Rattle.step_text.specs.declared.agents.file.RefusedFile.{RefusedFile}
+use Rattle.step_text.specs.declared.agents.AgentsFault.{AgentsFault}
+use Rattle.step_text.specs.declared.agents.AgentsFault.TheVariants.{File}
+use Rattle.step_text.specs.declared.agents.AgentsFile.{AgentsFile}
+use Rattle.step_text.specs.declared.agents.RefusedFile.{RefusedFile}
 
 -- what a text says, whatever is noted of it
 abbrev pub SaysInFile : List ℕ → Result AgentsFile RefusedFile → Type 0

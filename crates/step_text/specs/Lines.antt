@@ -10,12 +10,12 @@ use Rattle.call_json.specs.Trim.{trim}
 use Rattle.messages.specs.declared.call.Call.{Call}
 use Rattle.call_json.specs.declared.members.fault.Refusal.{Refusal}
 use Rattle.call_json.specs.Calls.{call_of}
-use Rattle.messages.specs.declared.steps.step.Step.{Step}
-use Rattle.messages.specs.declared.steps.step.Step.TheVariants.{Send, Deliver, Allocate, Tick, LoseAgent, HangUp, Prepare, Commit, StopAgent, StopMaster, Take}
-use Rattle.messages.specs.declared.steps.step.StepCause.{StepCause}
-use Rattle.messages.specs.declared.steps.step.StepCause.TheVariants.{Start, Again, Executor, Mail}
-use Rattle.step_text.specs.declared.lines.fault.LineRefusal.{LineRefusal}
-use Rattle.step_text.specs.declared.lines.fault.LineRefusal.TheVariants.{NotAStep, BadCall}
+use Rattle.messages.specs.declared.steps.Step.{Step}
+use Rattle.messages.specs.declared.steps.Step.TheVariants.{Send, Deliver, Allocate, Tick, LoseAgent, HangUp, Prepare, Commit, StopAgent, StopMaster, Take}
+use Rattle.messages.specs.declared.steps.StepCause.{StepCause}
+use Rattle.messages.specs.declared.steps.StepCause.TheVariants.{Start, Again, Executor, Mail}
+use Rattle.step_text.specs.declared.lines.LineRefusal.{LineRefusal}
+use Rattle.step_text.specs.declared.lines.LineRefusal.TheVariants.{NotAStep, BadCall}
 use Rattle.step_text.specs.declared.lines.read.Kind.{Kind}
 use Rattle.step_text.specs.declared.lines.read.Kind.TheVariants as kinds
 use Rattle.step_text.specs.Answers.{◌>>=◌, wanted}

@@ -5,10 +5,10 @@ use Rattle.serde_json.specs.Find.{get, as_number, as_u64, as_str, as_object}
 use Rattle.serde_json.specs.Events.{members_len}
 use Rattle.names_core.specs.Ids.{Numbered, id_of}
 use Rattle.names_core.specs.Names.{is_name}
-use Rattle.messages.specs.declared.cause.ExecutorState.{ExecutorState}
-use Rattle.messages.specs.declared.cause.ExecutorState.TheVariants.{Running, Finished, Failed}
-use Rattle.messages.specs.declared.steps.step.Keep.{Keep}
-use Rattle.messages.specs.declared.steps.step.Keep.TheVariants.{Before, After}
+use Rattle.messages.specs.declared.call.ExecutorState.{ExecutorState}
+use Rattle.messages.specs.declared.call.ExecutorState.TheVariants.{Running, Finished, Failed}
+use Rattle.messages.specs.declared.steps.Keep.{Keep}
+use Rattle.messages.specs.declared.steps.Keep.TheVariants.{Before, After}
 use Rattle.step_text.specs.Answers.{◌>>=◌}
 
 -- the value itself, where the test holds

@@ -3,10 +3,10 @@ use Rattle.std.specs.Prelude.{ℕ, List, [], Option, None, Some, codes}
 use Rattle.messages.specs.declared.call.Call.{Call}
 use Rattle.messages.specs.declared.call.Call.TheVariants.{Subscribe, Teardown, Accept, Decline, Revive, Suppress, Kill, Acknowledge, Reconcile}
 use Rattle.messages.specs.Refusals.{agent_refusal_text, master_refusal_text}
-use Rattle.messages.specs.declared.steps.step.Step.{Step}
-use Rattle.messages.specs.declared.steps.step.Step.TheVariants as steps
-use Rattle.messages.specs.declared.steps.verdict.Verdict.{Verdict}
-use Rattle.messages.specs.declared.steps.verdict.Verdict.TheVariants as verdicts
+use Rattle.messages.specs.declared.steps.Step.{Step}
+use Rattle.messages.specs.declared.steps.Step.TheVariants as steps
+use Rattle.messages.specs.declared.steps.Verdict.{Verdict}
+use Rattle.messages.specs.declared.steps.Verdict.TheVariants as verdicts
 
 -- the type of a call
 unfoldable pub call_word : Call → List ℕ

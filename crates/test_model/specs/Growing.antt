@@ -2,7 +2,7 @@
 -- and the master's books have what it last reported.
 use Rattle.std.specs.Prelude.{List, [], ◌∷◌, Some, Result}
 use Rattle.quantity.specs.declared.rows.Row.{Row}
-use Rattle.messages.specs.declared.cause.Cause.TheVariants.{Start}
+use Rattle.messages.specs.declared.call.Cause.TheVariants.{Start}
 use Rattle.messages.specs.declared.refusal.AgentRefusal.{AgentRefusal}
 use Rattle.cluster_model.specs.Agents.{Agent, Draft, next_of}
 use Rattle.cluster_model.specs.Sides.{Side, MakeOffer, offer_rows}

@@ -4,12 +4,12 @@ use Rattle.messages.specs.declared.mail.MasterMail.TheVariants.{Hello}
 use Rattle.messages.specs.declared.mail.AgentMail.TheVariants.{Report}
 use Rattle.messages.specs.declared.record.RecordParts.{RecordParts}
 use Rattle.cluster_model.specs.Events.{Subscribed, Heartbeat}
-use Rattle.messages.specs.declared.steps.step.Step.{Step}
-use Rattle.messages.specs.declared.steps.step.Step.TheVariants.{Send, Deliver, Tick, Prepare, Commit}
-use Rattle.messages.specs.declared.steps.step.StepCause.TheVariants.{Mail as ByMail}
-use Rattle.messages.specs.declared.steps.fault.ClusterFault.TheVariants.{TimeBack}
-use Rattle.messages.specs.declared.steps.verdict.Verdict.TheVariants.{Ok as Fine}
-use Rattle.messages.specs.declared.steps.verdict.Sent.TheVariants.{Call as CallSent}
+use Rattle.messages.specs.declared.steps.Step.{Step}
+use Rattle.messages.specs.declared.steps.Step.TheVariants.{Send, Deliver, Tick, Prepare, Commit}
+use Rattle.messages.specs.declared.steps.StepCause.TheVariants.{Mail as ByMail}
+use Rattle.messages.specs.declared.steps.ClusterFault.TheVariants.{TimeBack}
+use Rattle.messages.specs.declared.steps.Verdict.TheVariants.{Ok as Fine}
+use Rattle.messages.specs.declared.steps.Sent.TheVariants.{Call as CallSent}
 use Rattle.test_model.specs.Short.{id, row, event_on, to_agent, from_agent, durable, line, Refused, ending, Expected}
 use Rattle.messages.specs.declared.call.Call.TheVariants as calls
 

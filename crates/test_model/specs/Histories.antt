@@ -3,9 +3,9 @@ use Rattle.std.specs.Prelude.{ℕ, List, [], ◌∷◌, map, None, Some}
 use Rattle.messages.specs.declared.call.Call.TheVariants.{Subscribe, Accept}
 use Rattle.messages.specs.declared.record.RecordParts.{RecordParts}
 use Rattle.cluster_model.specs.Channels.{World}
-use Rattle.messages.specs.declared.steps.step.Step.{Step}
-use Rattle.messages.specs.declared.steps.step.Step.TheVariants.{Send, Deliver, Allocate, Prepare, Commit}
-use Rattle.messages.specs.declared.steps.step.StepCause.TheVariants.{Mail as ByMail}
+use Rattle.messages.specs.declared.steps.Step.{Step}
+use Rattle.messages.specs.declared.steps.Step.TheVariants.{Send, Deliver, Allocate, Prepare, Commit}
+use Rattle.messages.specs.declared.steps.StepCause.TheVariants.{Mail as ByMail}
 use Rattle.cluster_model.specs.Steps.{history, unmarked, unweighted}
 use Rattle.test_model.specs.Short.{id, wanted}
 use Rattle.test_model.specs.Agents.{n_a1, n_t1, cpus}

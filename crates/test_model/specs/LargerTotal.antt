@@ -5,11 +5,11 @@ use Rattle.messages.specs.declared.mail.AgentMail.TheVariants.{Report}
 use Rattle.messages.specs.declared.record.RecordParts.{RecordParts}
 use Rattle.quantity.specs.declared.rows.Row.{Row}
 use Rattle.cluster_model.specs.Events.{Subscribed, Offers, Rescind}
-use Rattle.messages.specs.declared.steps.step.Step.{Step}
-use Rattle.messages.specs.declared.steps.step.Step.TheVariants.{Send, Deliver, Allocate, Prepare, Commit}
-use Rattle.messages.specs.declared.steps.step.StepCause.TheVariants.{Start as ByStart, Mail as ByMail}
-use Rattle.messages.specs.declared.steps.verdict.Verdict.TheVariants.{Ok as Fine, MasterRefused}
-use Rattle.messages.specs.declared.steps.verdict.Sent.TheVariants.{Call as CallSent}
+use Rattle.messages.specs.declared.steps.Step.{Step}
+use Rattle.messages.specs.declared.steps.Step.TheVariants.{Send, Deliver, Allocate, Prepare, Commit}
+use Rattle.messages.specs.declared.steps.StepCause.TheVariants.{Start as ByStart, Mail as ByMail}
+use Rattle.messages.specs.declared.steps.Verdict.TheVariants.{Ok as Fine, MasterRefused}
+use Rattle.messages.specs.declared.steps.Sent.TheVariants.{Call as CallSent}
 use Rattle.test_model.specs.Short.{id, row, made, event_on, to_agent, from_agent, durable, line, ending, Expected}
 use Rattle.messages.specs.declared.call.Call.TheVariants as calls
 use Rattle.messages.specs.declared.refusal.MasterRefusal.TheVariants as masters

@@ -2,10 +2,10 @@
 use Rattle.std.specs.Prelude.{ℕ, List, [], ◌∷◌, None}
 use Rattle.messages.specs.declared.mail.MasterMail.TheVariants.{Hello}
 use Rattle.messages.specs.declared.record.RecordParts.{RecordParts}
-use Rattle.messages.specs.declared.steps.step.Step.{Step}
-use Rattle.messages.specs.declared.steps.step.Step.TheVariants.{Deliver, Allocate, StopMaster}
-use Rattle.messages.specs.declared.steps.fault.ClusterFault.TheVariants.{MasterDown}
-use Rattle.messages.specs.declared.steps.verdict.Verdict.TheVariants.{Ok as Fine}
+use Rattle.messages.specs.declared.steps.Step.{Step}
+use Rattle.messages.specs.declared.steps.Step.TheVariants.{Deliver, Allocate, StopMaster}
+use Rattle.messages.specs.declared.steps.ClusterFault.TheVariants.{MasterDown}
+use Rattle.messages.specs.declared.steps.Verdict.TheVariants.{Ok as Fine}
 use Rattle.test_model.specs.Short.{row, to_agent, durable, line, Refused, ending, Expected}
 
 abbrev pub n_a1 : List ℕ

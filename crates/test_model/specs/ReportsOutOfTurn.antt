@@ -6,12 +6,12 @@ use Rattle.messages.specs.declared.mail.MasterMail.TheVariants.{Hello, Issued}
 use Rattle.messages.specs.declared.mail.AgentMail.TheVariants.{Report, Applied, Update}
 use Rattle.messages.specs.declared.record.RecordParts.{RecordParts}
 use Rattle.cluster_model.specs.Events.{Subscribed, Offers}
-use Rattle.messages.specs.declared.steps.step.Step.{Step}
-use Rattle.messages.specs.declared.steps.step.Step.TheVariants.{Send, Deliver, Allocate, Prepare, Commit, StopMaster}
-use Rattle.messages.specs.declared.cause.ExecutorState.TheVariants as executors
-use Rattle.messages.specs.declared.steps.step.StepCause.TheVariants.{Start as ByStart, Executor as ByExecutor, Mail as ByMail}
-use Rattle.messages.specs.declared.steps.verdict.Verdict.TheVariants.{Ok as Fine, MasterRefused}
-use Rattle.messages.specs.declared.steps.verdict.Sent.TheVariants.{Call as CallSent}
+use Rattle.messages.specs.declared.steps.Step.{Step}
+use Rattle.messages.specs.declared.steps.Step.TheVariants.{Send, Deliver, Allocate, Prepare, Commit, StopMaster}
+use Rattle.messages.specs.declared.call.ExecutorState.TheVariants as executors
+use Rattle.messages.specs.declared.steps.StepCause.TheVariants.{Start as ByStart, Executor as ByExecutor, Mail as ByMail}
+use Rattle.messages.specs.declared.steps.Verdict.TheVariants.{Ok as Fine, MasterRefused}
+use Rattle.messages.specs.declared.steps.Sent.TheVariants.{Call as CallSent}
 use Rattle.test_model.specs.Short.{id, row, job, booked, made, wanted, event_on, to_agent, from_agent, task, durable, line, ending, Expected}
 use Rattle.messages.specs.declared.call.Call.TheVariants as calls
 use Rattle.messages.specs.declared.refusal.MasterRefusal.TheVariants as masters

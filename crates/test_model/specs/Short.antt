@@ -15,15 +15,15 @@ use Rattle.messages.specs.declared.record.RecordParts.{RecordParts}
 use Rattle.messages.specs.declared.record.RecordedTask.{RecordedTask}
 use Rattle.cluster_model.specs.Sides.{offer_rows}
 use Rattle.cluster_model.specs.Channels.{Channel}
-use Rattle.messages.specs.declared.events.event.Event.{Event}
-use Rattle.messages.specs.declared.events.offer.SentOffer.{SentOffer}
-use Rattle.messages.specs.declared.events.stream_event.StreamEvent.{StreamEvent}
+use Rattle.messages.specs.declared.events.Event.{Event}
+use Rattle.messages.specs.declared.events.SentOffer.{SentOffer}
+use Rattle.messages.specs.declared.events.StreamEvent.{StreamEvent}
 use Rattle.cluster_model.specs.Clusters.{Cluster, Outputs}
-use Rattle.messages.specs.declared.steps.step.Step.{Step}
-use Rattle.messages.specs.declared.steps.fault.ClusterFault.{ClusterFault}
-use Rattle.messages.specs.declared.steps.verdict.Verdict.{Verdict}
-use Rattle.messages.specs.declared.steps.verdict.Sent.{Sent}
-use Rattle.messages.specs.declared.steps.verdict.Sent.TheVariants.{ToAgent as MailToAgent, ToMaster as MailToMaster}
+use Rattle.messages.specs.declared.steps.Step.{Step}
+use Rattle.messages.specs.declared.steps.ClusterFault.{ClusterFault}
+use Rattle.messages.specs.declared.steps.Verdict.{Verdict}
+use Rattle.messages.specs.declared.steps.Sent.{Sent}
+use Rattle.messages.specs.declared.steps.Sent.TheVariants.{ToAgent as MailToAgent, ToMaster as MailToMaster}
 use Rattle.cluster_model.specs.Steps.{Done, Marked, unmarked, step_marked, open_cluster, unweighted}
 
 abbrev pub id : ℕ → ℕ → Numbered

@@ -1,7 +1,7 @@
 //! A cluster whose history is full.
 
 ghost use Rattle.std.specs.Prelude.{◌≡◌, ⊤, []};
-ghost use Rattle.messages.specs.declared.steps.fault.ClusterFault.TheVariants.{HistoryFull};
+ghost use Rattle.messages.specs.declared.steps.ClusterFault.TheVariants.{HistoryFull};
 ghost use Rattle.cluster_core.specs.Recording.{kind_of as kind_of_fault};
 
 use cluster_core::{ClusterFault, KeptEntry, Record, RecordedCluster, Step};

@@ -2,7 +2,7 @@
 
 ghost use Rattle.std.specs.Prelude.{◌≡◌, ◌++◌, ◌∷◌, [], drop, length, slice_get, List, OnOk, OnErr};
 ghost use Rattle.std.specs.Option.{option_copied};
-ghost use Rattle.messages.specs.declared.events.event.Event.{Event};
+ghost use Rattle.messages.specs.declared.events.Event.{Event};
 ghost use Rattle.cluster_channels.specs.Streams.{opened_stream, is_kept_as};
 
 use messages::Event;
@@ -19,7 +19,7 @@ pub struct Waiting {
 
 impl Model for Waiting {
     ghost use Rattle.std.specs.Prelude.{List};
-    ghost use Rattle.messages.specs.declared.events.event.Event.{Event};
+    ghost use Rattle.messages.specs.declared.events.Event.{Event};
 
     ghost Value = { List Event };
 

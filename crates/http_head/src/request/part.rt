@@ -2,11 +2,9 @@
 
 ghost use Rattle.std.specs.Prelude.{◌≡◌, ◌<◌, ℕ, List, ◌++◌, OnOk, IsErrOf};
 ghost use Rattle.http_head.specs.Found.{FindsPart};
-ghost use Rattle.http_head.specs.declared.request.fault.ConnectionFault.TheVariants.{Failed};
+ghost use Rattle.http_head.specs.declared.request.ConnectionFault.TheVariants.{Failed};
 
-use crate::request::fault::ConnectionFault;
-use crate::request::inlet::Inlet;
-use crate::request::unread::Unread;
+use crate::request::{ConnectionFault, Inlet, Unread};
 use crate::{MAX_PART, Place, Scan};
 
 /// What is at the front of the input.

@@ -2,12 +2,10 @@
 
 ghost use Rattle.std.specs.Prelude.{◌≡◌, ◌+◌, ◌<◌, false, if◌then◌else◌, IfErr, IfOk, IfNone, vec_len};
 ghost use Rattle.http_serve.specs.Faults.{taken_before};
-ghost use Rattle.http_serve.specs.declared.workers.fault.HttpFault.TheVariants.{OutOfMemory, NoThread};
+ghost use Rattle.http_serve.specs.declared.workers.HttpFault.TheVariants.{OutOfMemory, NoThread};
 
-use crate::workers::arrivals::Arrivals;
-use crate::workers::fault::{HttpFault, taken_before};
-use crate::workers::job::Job;
 use crate::workers::shop::{SharedWork, start};
+use crate::workers::{Arrivals, HttpFault, Job, taken_before};
 use http_door::{Bench, Gate, Inlet, Outlet};
 use std::alloc::Global;
 use std::marker::Brand;

@@ -2,11 +2,10 @@
 
 ghost use Rattle.std.specs.Prelude.{◌≡◌, IfErr, None, vec_len};
 ghost use Rattle.std.specs.Sync.Mutex.{mutex_guard_value};
-ghost use Rattle.http_serve.specs.declared.workers.fault.HttpFault.TheVariants.{OutOfMemory, NoThread};
+ghost use Rattle.http_serve.specs.declared.workers.HttpFault.TheVariants.{OutOfMemory, NoThread};
 
-use crate::workers::fault::{HttpFault, memory_refused, thread_refused};
 use crate::workers::floor::{Ticket, WorkerPool};
-use crate::workers::job::Job;
+use crate::workers::{HttpFault, Job, memory_refused, thread_refused};
 use http_door::{Bench, Gate, Inlet, Outlet};
 use std::alloc::Global;
 use std::sync::ledger::Blank;

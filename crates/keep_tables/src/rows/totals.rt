@@ -11,8 +11,7 @@ ghost use Rattle.keep_tables.specs.Tables.{Puts, amount_row, WritesIfOk};
 ghost use Rattle.keep_tables.specs.Totals.{AreNamed, HasAmounts, HasNoAmount, PutsAmounts, amount_in_row, total_in_rows};
 
 use crate::rows::changes::{clear_amounts, put_amount, read_amount_places};
-use crate::rows::columns::{amount_at, text_at};
-use crate::rows::fault::{KeepFault, corrupt, fault_of};
+use crate::rows::{KeepFault, amount_at, corrupt, fault_of, text_at};
 use quantity::{QuantityFault, Resources};
 use sqlite::{Alter, Row, Transaction};
 use std::alloc::Global;

@@ -9,7 +9,7 @@ ghost use Rattle.cluster_model.specs.Fits.{SidesFit};
 ghost use Rattle.master_state.specs.Works.{Gave, master_of, run_of};
 ghost use Rattle.master_calls.specs.Accepts.{CanLaunch, accepted_as, accepted_good, accepted_none, accepted_so, bench, passes_limits, takes_all, takes_one};
 
-use crate::accepting::launch::launch_all;
+use crate::accepting::launch_all;
 use crate::accepting::take::{Caller, Progress, lose_all, take_all};
 use master_agents::{AgentSide, GoodOffers};
 use master_state::{MasterFault, State};

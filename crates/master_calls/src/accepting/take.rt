@@ -10,7 +10,7 @@ ghost use Rattle.master_calls.specs.Holding.{first_at};
 ghost use Rattle.master_state.specs.States.{task_state_sent};
 ghost use Rattle.master_calls.specs.Accepts.{bench, held_task, is_covered, launches, loses_one, new_task, takes_as, takes_one, sends_held};
 
-use crate::accepting::held::first_among;
+use crate::accepting::first_among;
 use master_agents::Sides;
 use master_state::State;
 use messages::{Booked, Job, TaskInfo};

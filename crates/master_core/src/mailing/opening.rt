@@ -6,8 +6,7 @@ ghost use Rattle.cluster_model.specs.Fits.{AreBookable};
 ghost use Rattle.master_state.specs.Works.{master_of};
 ghost use Rattle.master_core.specs.MailingSteps.{ending, ends_of, session_opened};
 
-use crate::mailing::reported::Reported;
-use crate::mailing::sending;
+use crate::mailing::{Reported, sending};
 use master_state::State;
 use messages::{Booked, Command, Framework};
 use names_core::{AgentName, FrameworkId};

@@ -8,7 +8,7 @@ ghost use Rattle.master_state.specs.Frameworks.{with_id};
 ghost use Rattle.stream_core.specs.Updates.{most_updates};
 ghost use Rattle.master_core.specs.Sending.{loss_of, lost_event, news, rescind_of, updated_event};
 
-use crate::mailing::reported::Reported;
+use crate::mailing::Reported;
 use master_agents::{OffersAt, TaskUpdate, TasksAt};
 use master_state::{Frameworks, is_due};
 use messages::{Booked, Event, Framework, Offer, StreamEvent, TaskStatus};

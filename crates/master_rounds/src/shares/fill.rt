@@ -13,8 +13,7 @@ ghost use Rattle.master_rounds.specs.Allocations.{AreFoundOn, BeginRound, IsFoun
 ghost use Rattle.master_rounds.specs.Owned.{totals_in};
 ghost use Rattle.master_rounds.specs.Weighing.{IsWeighedAt};
 
-use crate::shares::found::{are_found, found_on};
-use crate::shares::owned::own_all;
+use crate::shares::{are_found, found_on, own_all};
 use drf_pick::{CountedShares, Shares};
 use master_agents::{AgentSide, Sides};
 use master_state::Frameworks;

@@ -10,9 +10,8 @@ ghost use Rattle.master_state.specs.Starts.{AreStarts};
 ghost use Rattle.drf_pick.specs.Shown.{AreCounted};
 ghost use Rattle.master_state.specs.LastRound.{clients_of};
 
-use crate::registry::last_round::RoundCache;
 use crate::registry::starts::SearchHints;
-use crate::registry::{edit, look, streams};
+use crate::registry::{RoundCache, edit, look, streams};
 use drf_pick::CountedShares;
 use messages::Framework;
 use names_core::{AgentName, FrameworkId, RoleName, StreamId};

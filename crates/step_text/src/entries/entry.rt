@@ -4,8 +4,7 @@ ghost use Rattle.std.specs.Prelude.{◌≡◌, ◌++◌, ◌+◌, ◌<◌, ◌^�
 ghost use Rattle.std.specs.List.{flat_map};
 ghost use Rattle.step_text.specs.EntriesLines.{closed_line, entry_text, event_line, line, number_front, opening_text, outputs_text, refused_text, sent_line, sent_lines, taken_lines};
 
-use crate::entries::line::{event_front, mail_front, number_front, push_line};
-use crate::entries::words::{step_word, verdict_text};
+use crate::entries::{event_front, mail_front, number_front, push_line, step_word, verdict_text};
 use event_json::{to_agent_text, to_master_text, write_event};
 use messages::{ClusterFault, Entry, Outputs, Sent, Step, StreamEvent};
 use names_core::StreamId;

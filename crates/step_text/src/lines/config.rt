@@ -10,10 +10,8 @@ ghost use Rattle.step_text.specs.Configs as configs;
 ghost use Rattle.step_text.specs.Configurations.{configured_by};
 ghost use Rattle.step_text.specs.Members.{where_true};
 
-use crate::lines::fault::{LineFault, LineRefusal};
-use crate::lines::members::has_members;
 use crate::lines::read::LONGEST_LINE;
-use crate::lines::totals::total_of;
+use crate::lines::{LineFault, LineRefusal, has_members, total_of};
 use call_json::trim;
 use master_agents::{Config, ConfigFault, ConfiguredAgents};
 use names_core::{AgentName, NameFault, RoleName, Weights};

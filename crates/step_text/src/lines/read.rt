@@ -5,10 +5,10 @@ ghost use Rattle.serde_json.specs.View.{view};
 ghost use Rattle.step_text.specs.Answers.{Gives};
 ghost use Rattle.step_text.specs.Lines as lines;
 
-use crate::lines::agents::{commit, lose, prepare, stop_agent};
-use crate::lines::fault::{LineFault, NOT_A_STEP};
-use crate::lines::members::{has_members, moment_in, number_in, stream_in, text_in};
-use crate::lines::send::send;
+use crate::lines::{
+    LineFault, NOT_A_STEP, commit, has_members, lose, moment_in, number_in, prepare, send,
+    stop_agent, stream_in, text_in,
+};
 use call_json::trim;
 use messages::Step;
 use serde_json::Value;

@@ -1,8 +1,8 @@
 //! An agent over a chosen record. Commands are of session 1; all are about task t1 of framework
 //! F1-1 under L1-1.
 
-use crate::books::answers::{amounts_text, shown, word};
 use crate::books::words::{amounts, first, number, task};
+use crate::books::{amounts_text, shown, word};
 use agent_core::{Agent, AgentFault, Draft, Record};
 use event_json::record_of;
 use messages::{AgentMail, Cause, Command, ExecutorState, Job, MasterMail, RecordParts, ToAgent};

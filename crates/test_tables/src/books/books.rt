@@ -1,7 +1,7 @@
 //! Calls of a book by the names of its agents.
 
-use crate::books::answers::{amounts_text, answer_text, shown, word};
 use crate::books::words::{agent, amounts, first, task};
+use crate::books::{amounts_text, answer_text, shown, word};
 use messages::{Booked, Job, Offer};
 use names_core::{AgentName, FrameworkId, LaunchKey, OfferId, TaskState};
 use offer_tables::OfferBook;

@@ -1,6 +1,6 @@
 //! A configuration.
 
-use crate::books::answers::answer_text;
+use crate::books::answer_text;
 use crate::books::words::{agent, amounts, first};
 use master_agents::ConfiguredAgents;
 use std::alloc::Global;

@@ -1,7 +1,7 @@
 //! Calls of a roster, whose agents are named by their places.
 
-use crate::books::answers::{answer_text, shown, word, yes_or_no};
 use crate::books::words::{agent, first, number};
+use crate::books::{answer_text, shown, word, yes_or_no};
 use messages::Command;
 use names_core::{LaunchKey, Run};
 use roster::Roster;

@@ -1,7 +1,7 @@
 //! Calls of shares.
 
-use crate::books::answers::{answer_text, word};
 use crate::books::words::{amounts, first};
+use crate::books::{answer_text, word};
 use drf_pick::{Client, Shares, pick};
 use names_core::{FrameworkId, RoleName};
 use std::alloc::Global;

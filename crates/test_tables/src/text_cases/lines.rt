@@ -2,11 +2,9 @@
 
 use crate::text_cases::amounts::of_amounts;
 use crate::text_cases::events::{finished, message, offered};
-use crate::text_cases::frames::{frame, frames, pulls};
-use crate::text_cases::marks::unmarked;
-use crate::text_cases::refusals::refusal;
 use crate::text_cases::streams::{earlier, issued, taken, updates};
 use crate::text_cases::texts::of_texts;
+use crate::text_cases::{frame, frames, pulls, refusal, unmarked};
 use std::alloc::{AllocError, Global};
 
 fn of_kind(alloc: Global, kind: &str, text: &str) -> Result<String, AllocError> {

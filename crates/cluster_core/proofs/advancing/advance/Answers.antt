@@ -2,8 +2,8 @@ use Rattle.std.proofs.Common.{rules, ◌≡◌, ◌<◌, ◌∙◌, ap, drop, le
 use Rattle.std.specs.Prelude.{fold, IfErr}
 use Rattle.std.proofs.lemmas.Result.{IfErr-weaker}
 use Rattle.cluster_model.specs.Steps.{marked_of}
-use Rattle.messages.specs.declared.entries.entry.Outputs.{Outputs}
-use Rattle.messages.specs.declared.steps.fault.ClusterFault.TheVariants.{OutOfMemory}
+use Rattle.messages.specs.declared.entries.Outputs.{Outputs}
+use Rattle.messages.specs.declared.steps.ClusterFault.TheVariants.{OutOfMemory}
 use Rattle.master_agents.specs.Configs.{names_of}
 use Rattle.cluster_laws.specs.Items.{StandIn}
 use Rattle.cluster_laws.specs.Parts.{AreAgentsOf}

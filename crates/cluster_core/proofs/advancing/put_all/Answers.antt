@@ -2,7 +2,7 @@ use Rattle.std.proofs.Common.{◌≡◌, ◌≤◌, ◌+◌, ◌-◌, ◌∙◌,
 use Rattle.std.specs.Prelude.{fold, IfSome}
 use Rattle.std.proofs.lemmas.List.{length-drop, length-take}
 use Rattle.cluster_channels.proofs.Lists.{get_of_take}
-use Rattle.cluster_channels.specs.declared.posts.direction.Direction.{Direction}
+use Rattle.cluster_channels.specs.declared.posts.Direction.{Direction}
 use Rattle.cluster_core.specs.Putting.{direction_of}
 use Rattle.cluster_core.proofs.Puttings.{all_were_put, behind, got, one_more_put, puts_one_more}
 use Rattle.cluster_core.proofs.advancing.put_all.Goals as goal

@@ -1,7 +1,7 @@
 use Rattle.std.proofs.Common.{◌≤◌, ℕ, subst, sym}
 use Rattle.std.specs.Prelude.{OnOk}
 use Rattle.cluster_channels.specs.Numbers.{is_number}
-use Rattle.messages.specs.declared.steps.step.Step.{Step}
+use Rattle.messages.specs.declared.steps.Step.{Step}
 use Rattle.cluster_core.specs.StepRuns.{Passes}
 use Rattle.cluster_core.proofs.RunSteps.{numbers_so, passes_so}
 use Rattle.cluster_core.proofs.running.pass.Goals as goal

@@ -1,6 +1,6 @@
 use Rattle.std.proofs.Common.{◌≡◌, ◌<◌, ◌+◌, ◌++◌, ◌∷◌, [], ◌∙◌, List, ap, arith, length, subst, sym, take}
 use Rattle.std.proofs.lemmas.List.{take_more}
-use Rattle.messages.specs.declared.steps.step.Step.{Step}
+use Rattle.messages.specs.declared.steps.Step.{Step}
 use Rattle.cluster_core.specs.StepRuns.{Ran}
 use Rattle.cluster_core.proofs.RunSteps.{one_ran}
 use Rattle.cluster_core.proofs.running.pass_all.Goals as goal

@@ -1,5 +1,5 @@
 use Rattle.std.proofs.Common.{◌≡◌, List, length}
-use Rattle.messages.specs.declared.events.event.Event.{Event}
+use Rattle.messages.specs.declared.events.Event.{Event}
 use Rattle.http_door.specs.Deeds.{Chain, taken}
 use Rattle.http_door.specs.Exchange.{chunks}
 use Rattle.http_door.proofs.stream.send_events.Given as goal

@@ -4,7 +4,7 @@ use Rattle.sqlite.specs.Effect.{Database}
 use Rattle.sqlite.specs.Held.{state}
 use Rattle.sqlite.specs.State.{HasCleanDisk, IsUnchanged}
 use Rattle.keep_tables.specs.Tables.{AreIds, keeper_schema}
-use Rattle.keep_tables.specs.declared.rows.fault.KeepFault.TheVariants.{Damaged}
+use Rattle.keep_tables.specs.declared.rows.KeepFault.TheVariants.{Damaged}
 use Rattle.keep_tables.proofs.ReadLemmas.{checked}
 use Rattle.keep_store.proofs.CheckLemmas.{quiet_first, quiet_next, refused_ids}
 use Rattle.keep_store.proofs.check.check_tables.Goals as goal

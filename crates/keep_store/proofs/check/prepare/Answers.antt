@@ -4,7 +4,7 @@ use Rattle.sqlite.specs.Held.{state}
 use Rattle.sqlite.proofs.StateLemmas.{survives_then}
 use Rattle.keep_store.specs.SavesKept.{kept_in}
 use Rattle.keep_tables.specs.Tables.{IsOurs, keeper_schema}
-use Rattle.keep_tables.specs.declared.rows.fault.KeepFault.TheVariants.{Damaged}
+use Rattle.keep_tables.specs.declared.rows.KeepFault.TheVariants.{Damaged}
 use Rattle.keep_store.proofs.AddLemmas.{found_then, fresh_then, known_before, moved_then, never_err, ours_then, rows_then, then, then_both, unknown_parts}
 use Rattle.keep_store.proofs.check.prepare.Goals as goal
 

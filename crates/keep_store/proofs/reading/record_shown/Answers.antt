@@ -7,8 +7,8 @@ use Rattle.std.specs.List.{AllByRecursion}
 use Rattle.std.proofs.lemmas.List.Sorted.{IsPermutation-refl}
 use Rattle.keep_store.specs.SavesKept.{IsPut, kept_in, with_tasks}
 use Rattle.keep_store.specs.Kept.{AreTasksOf, IsLoaded}
-use Rattle.keep_tables.specs.declared.rows.fault.KeepFault.{KeepFault}
-use Rattle.keep_tables.specs.declared.rows.fault.KeepFault.TheVariants.{Damaged}
+use Rattle.keep_tables.specs.declared.rows.KeepFault.{KeepFault}
+use Rattle.keep_tables.specs.declared.rows.KeepFault.TheVariants.{Damaged}
 use Rattle.keep_tables.specs.Tables.{amount_shown}
 use Rattle.keep_store.proofs.RiseLemmas.{put_are_tasks}
 use Rattle.keep_store.proofs.LoadLemmas.{untold_damaged, headless_damaged, headless_total, old_form, unheaded_damaged, text_kept, misfit_damaged, only_text, none_at, front}

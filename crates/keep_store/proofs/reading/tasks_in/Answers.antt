@@ -1,6 +1,6 @@
 use Rattle.std.proofs.lemmas.Result.{err_from_is_err_and}
 use Rattle.std.proofs.Common.{◌≡◌}
-use Rattle.keep_tables.specs.declared.rows.fault.KeepFault.TheVariants.{Damaged}
+use Rattle.keep_tables.specs.declared.rows.KeepFault.TheVariants.{Damaged}
 use Rattle.keep_store.specs.SavesKept.{IsPut}
 use Rattle.keep_store.proofs.LoadLemmas.{told_more, all_push, untold_at, gives_none}
 use Rattle.keep_store.proofs.reading.tasks_in.Goals as goal

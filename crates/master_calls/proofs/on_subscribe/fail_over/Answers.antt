@@ -1,5 +1,5 @@
 use Rattle.std.proofs.Common.{ap, ◌∙◌}
-use Rattle.messages.specs.declared.events.event.Event.TheVariants as events
+use Rattle.messages.specs.declared.events.Event.TheVariants as events
 use Rattle.master_state.specs.States.{closed, event_sent}
 use Rattle.master_calls.proofs.on_subscribe.fail_over.Goals as goal
 

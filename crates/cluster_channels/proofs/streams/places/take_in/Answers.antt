@@ -1,6 +1,6 @@
 use Rattle.std.proofs.Common.{◌∙◌, List, set, ap, sym, subst}
 use Rattle.cluster_laws.specs.Runs.{AreRising}
-use Rattle.messages.specs.declared.events.event.Event.{Event}
+use Rattle.messages.specs.declared.events.Event.{Event}
 use Rattle.cluster_channels.specs.Streams.{KeptStream, first_waiting, taking}
 use Rattle.cluster_channels.proofs.Standing.{stands_at, none_at, changes_there, changes_nowhere}
 use Rattle.cluster_channels.proofs.Receiving.{takes_elsewhere, takes_here, set_ids}

@@ -7,7 +7,7 @@ use Rattle.cluster_model.specs.Steps.{Setup}
 use Rattle.cluster_parts.specs.Opening.{Opens}
 use Rattle.cluster_parts.specs.declared.masters.MasterAndChannels.{MasterAndChannels}
 use Rattle.messages.specs.declared.record.RecordParts.{RecordParts}
-use Rattle.messages.specs.declared.entries.entry.Entry.{Entry}
+use Rattle.messages.specs.declared.entries.Entry.{Entry}
 use Rattle.cluster_core.specs.Keeping.{known_opened}
 use Rattle.cluster_core.specs.Putting.{ArePut, direction_of}
 use Rattle.cluster_core.proofs.Puttings.{opening_put}

@@ -1,5 +1,5 @@
 use Rattle.std.proofs.Common.{refl, sym}
-use Rattle.messages.specs.declared.steps.step.Step.TheVariants.{Allocate}
+use Rattle.messages.specs.declared.steps.Step.TheVariants.{Allocate}
 use Rattle.cluster_model.specs.Rounds.{allocated}
 use Rattle.cluster_parts.proofs.StepsServed.{serve_rise, serve_takes}
 use Rattle.cluster_parts.proofs.parts.ClusterState.allocate.Goals as goal

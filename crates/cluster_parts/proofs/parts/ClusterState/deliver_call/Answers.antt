@@ -1,5 +1,5 @@
 use Rattle.std.proofs.Common.{refl, sym}
-use Rattle.messages.specs.declared.steps.step.Step.TheVariants.{Deliver}
+use Rattle.messages.specs.declared.steps.Step.TheVariants.{Deliver}
 use Rattle.cluster_model.specs.Calls.{call_effect}
 use Rattle.cluster_parts.proofs.StepsServed.{post_of_call, serve_rise, serve_takes}
 use Rattle.cluster_parts.proofs.parts.ClusterState.deliver_call.Goals as goal

@@ -1,5 +1,5 @@
 use Rattle.std.proofs.Common.{Option, refl, subst, sym}
-use Rattle.messages.specs.declared.steps.step.Step.TheVariants.{Deliver}
+use Rattle.messages.specs.declared.steps.Step.TheVariants.{Deliver}
 use Rattle.cluster_model.specs.Masters.{Master}
 use Rattle.cluster_parts.specs.Masters.{StandsFor}
 use Rattle.cluster_parts.proofs.Parting.{master_takes}

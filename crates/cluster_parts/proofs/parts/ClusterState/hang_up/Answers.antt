@@ -1,5 +1,5 @@
 use Rattle.std.proofs.Common.{◌∙◌, refl, sym}
-use Rattle.messages.specs.declared.steps.step.Step.TheVariants.{HangUp}
+use Rattle.messages.specs.declared.steps.Step.TheVariants.{HangUp}
 use Rattle.cluster_model.specs.Mails.{hung_up}
 use Rattle.cluster_parts.proofs.StepsServed.{known_stream, serve_rise, serve_takes}
 use Rattle.cluster_parts.proofs.parts.ClusterState.hang_up.Goals as goal

@@ -1,5 +1,5 @@
 use Rattle.std.proofs.Common.{rules, ◌≡◌, ◌∙◌, None, Option, refl, sym, subst}
-use Rattle.messages.specs.declared.steps.step.Step.TheVariants.{LoseAgent}
+use Rattle.messages.specs.declared.steps.Step.TheVariants.{LoseAgent}
 use Rattle.cluster_model.specs.Masters.{Master}
 use Rattle.master_agents.specs.Named.{lost_by}
 use Rattle.cluster_parts.specs.Masters.{StandsFor}

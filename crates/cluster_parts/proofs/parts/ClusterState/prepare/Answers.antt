@@ -2,10 +2,10 @@ use Rattle.std.proofs.Common.{rules, ◌∙◌, [], List, Some, inl, inr, slice_
 use Rattle.std.specs.Prelude.{IfErr, ◌⊎◌}
 use Rattle.std.proofs.lemmas.Result.{IfErr-weaker}
 use Rattle.messages.specs.declared.refusal.AgentRefusal.TheVariants.{NotForMe}
-use Rattle.messages.specs.declared.steps.step.Step.TheVariants.{Prepare}
-use Rattle.messages.specs.declared.entries.entry.Outputs.{Outputs}
-use Rattle.messages.specs.declared.steps.verdict.Verdict.TheVariants.{AgentRefused}
-use Rattle.messages.specs.declared.steps.fault.ClusterFault.{ClusterFault}
+use Rattle.messages.specs.declared.steps.Step.TheVariants.{Prepare}
+use Rattle.messages.specs.declared.entries.Outputs.{Outputs}
+use Rattle.messages.specs.declared.steps.Verdict.TheVariants.{AgentRefused}
+use Rattle.messages.specs.declared.steps.ClusterFault.{ClusterFault}
 use Rattle.cluster_agents.specs.Agents.{KeptAgent}
 use Rattle.cluster_agents.specs.Handing.{MayRefuse}
 use Rattle.cluster_agents.specs.Moves.{Makes, kept_agents, sending}

@@ -1,8 +1,8 @@
 use Rattle.std.proofs.Common.{[], refl, sym, subst}
 use Rattle.std.specs.Prelude.{slice_set}
-use Rattle.messages.specs.declared.steps.step.Step.TheVariants.{StopAgent}
-use Rattle.messages.specs.declared.steps.step.Keep.TheVariants.{Before}
-use Rattle.messages.specs.declared.steps.verdict.Verdict.TheVariants as verdicts
+use Rattle.messages.specs.declared.steps.Step.TheVariants.{StopAgent}
+use Rattle.messages.specs.declared.steps.Keep.TheVariants.{Before}
+use Rattle.messages.specs.declared.steps.Verdict.TheVariants as verdicts
 use Rattle.cluster_agents.specs.Agents.{KeptAgent}
 use Rattle.cluster_agents.specs.Moves.{Makes, kept_agents, sending}
 use Rattle.cluster_parts.proofs.Parting.{here, one_takes}

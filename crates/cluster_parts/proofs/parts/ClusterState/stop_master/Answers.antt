@@ -1,6 +1,6 @@
 use Rattle.std.proofs.Common.{◌≡◌, ◌+◌, ℕ, true, false, None, nat_lt, refl, sym, ap, ◌∙◌, subst}
 use Rattle.cluster_model.specs.Ids.{last_run}
-use Rattle.messages.specs.declared.steps.verdict.Verdict.TheVariants as verdicts
+use Rattle.messages.specs.declared.steps.Verdict.TheVariants as verdicts
 use Rattle.cluster_agents.specs.Outcomes.{ends_with}
 use Rattle.cluster_parts.specs.Opening.{Starts}
 use Rattle.cluster_parts.specs.Restarting.{Restarts}

@@ -1,5 +1,5 @@
 use Rattle.std.proofs.Common.{◌∙◌, nat_lt, ap, refl}
-use Rattle.messages.specs.declared.steps.step.Step.TheVariants.{Tick}
+use Rattle.messages.specs.declared.steps.Step.TheVariants.{Tick}
 use Rattle.cluster_model.specs.Mails.{ticked}
 use Rattle.cluster_parts.proofs.StepsServed.{is_not_below, serve_rise, serve_takes}
 use Rattle.cluster_parts.proofs.parts.ClusterState.tick.Goals as goal

@@ -1,5 +1,5 @@
 use Rattle.std.proofs.Common.{◌≡◌, ℕ, suc, arith, inl, subst}
-use Rattle.messages.specs.declared.steps.step.Step.TheVariants.{Deliver}
+use Rattle.messages.specs.declared.steps.Step.TheVariants.{Deliver}
 use Rattle.desk_agents.specs.Asked.{IsAsked}
 use Rattle.desk_agents.proofs.Unanswered.{asked_so}
 use Rattle.desk_agents.proofs.declines.Watch.deliver.Goals as goal

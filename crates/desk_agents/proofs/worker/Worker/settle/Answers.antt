@@ -1,6 +1,6 @@
 use Rattle.std.proofs.Common.{None, refl}
-use Rattle.messages.specs.declared.steps.step.Step.TheVariants.{Commit, Prepare}
-use Rattle.messages.specs.declared.steps.step.StepCause.TheVariants.{Start}
+use Rattle.messages.specs.declared.steps.Step.TheVariants.{Commit, Prepare}
+use Rattle.messages.specs.declared.steps.StepCause.TheVariants.{Start}
 use Rattle.desk_agents.specs.Saved.{WasKept}
 use Rattle.desk_agents.proofs.Saves.{keeps_aside, keeps_committed, keeps_refused, was_kept}
 use Rattle.desk_agents.proofs.worker.Worker.settle.Goals as goal

@@ -1,5 +1,5 @@
 use Rattle.std.proofs.Common.{subst}
-use Rattle.messages.specs.declared.entries.entry.Entry.{Entry}
+use Rattle.messages.specs.declared.entries.Entry.{Entry}
 use Rattle.desk_core.specs.Receipts.{PassState}
 use Rattle.desk_agents.specs.Stops.{IsAfter}
 use Rattle.desk_agents.proofs.Ends.{over_refused}

@@ -4,7 +4,7 @@ use Rattle.std.proofs.lemmas.Result.{IfErr-at_err}
 use Rattle.sqlite.specs.Held.{state}
 use Rattle.keep_store.specs.SavesKept.{kept_in}
 use Rattle.keep_tables.specs.Tables.{IsReady, Stays}
-use Rattle.keep_tables.specs.declared.rows.fault.KeepFault.TheVariants.{Damaged}
+use Rattle.keep_tables.specs.declared.rows.KeepFault.TheVariants.{Damaged}
 use Rattle.keep_store.specs.Kept.{HoldsRun, run_in}
 use Rattle.keep_store.proofs.RunLemmas.{given_behind, failed_behind, either_behind, on_any, on_any_err}
 use Rattle.keep_store.proofs.keeper.Keeper.next_run.Goals as goal

@@ -2,8 +2,8 @@ use Rattle.std.proofs.Common.{arith, ◌≡◌, ◌<◌, length, Result, Err, ap
 use Rattle.std.proofs.lemmas.Result.{err_from_is_err_and}
 use Rattle.std.proofs.lemmas.List.{take_all}
 use Rattle.quantity.specs.Rows.{names_limit}
-use Rattle.keep_tables.specs.declared.rows.fault.KeepFault.{KeepFault}
-use Rattle.keep_tables.specs.declared.rows.fault.KeepFault.TheVariants.{Damaged}
+use Rattle.keep_tables.specs.declared.rows.KeepFault.{KeepFault}
+use Rattle.keep_tables.specs.declared.rows.KeepFault.TheVariants.{Damaged}
 use Rattle.keep_tables.proofs.TotalLemmas.{AreRead, read_more, total_is, total_too_long, total_untold}
 use Rattle.keep_tables.proofs.rows.totals.total_of.Goals as goal
 

@@ -6,7 +6,7 @@ use Rattle.serde_json.specs.Data.{Data}
 use Rattle.serde_json.specs.Read.{read}
 use Rattle.serde_json.specs.View.{view}
 use Rattle.step_text.specs.Configs.{config_of, config_in, config_json, configured}
-use Rattle.step_text.specs.declared.lines.fault.LineRefusal.TheVariants.{BadConfig}
+use Rattle.step_text.specs.declared.lines.LineRefusal.TheVariants.{BadConfig}
 use Rattle.step_text.proofs.lines.config.config_json.Goals as goal
 
 read_it : (bytes : List ℕ) (d : Data) → IsUtf8 bytes → read bytes ≡ Some d → config_json bytes ≡ configured (config_of d)

@@ -6,7 +6,7 @@ use Rattle.serde_json.specs.Data.{Data}
 use Rattle.serde_json.specs.Read.{read}
 use Rattle.serde_json.specs.View.{view}
 use Rattle.step_text.specs.Lines.{step_of, step_in, read_json}
-use Rattle.step_text.specs.declared.lines.fault.LineRefusal.TheVariants.{NotAStep}
+use Rattle.step_text.specs.declared.lines.LineRefusal.TheVariants.{NotAStep}
 use Rattle.step_text.proofs.lines.read.read_json.Goals as goal
 
 read_it : (bytes : List ℕ) (d : Data) → IsUtf8 bytes → read bytes ≡ Some d → read_json bytes ≡ step_of d

@@ -1,8 +1,0 @@
-use Rattle.std.proofs.Common.{◌≡◌, [], map, drop}
-use Rattle.serde_json.specs.View.{view}
-use Rattle.call_json.specs.Lists.{each_in}
-use Rattle.call_json.specs.Offers.{add_offer}
-use Rattle.call_json.proofs.bodies.offers.all_offers.Given as goal
-
-abbrev pub invariant-loop-value : goal.invariant-loop-value
-invariant-loop-value l = each_in (add_offer l.member) l.ids.items (map view (drop l.value-index l.values)) ≡ each_in (add_offer l.member) [] (map view l.values)

@@ -1,6 +1,0 @@
-use Rattle.std.proofs.Common.{◌≡◌, ◌++◌, map}
-use Rattle.cluster_core.specs.Offers.{open_offer}
-use Rattle.cluster_core.proofs.desk.offers.push_offers.Given as goal
-
-abbrev pub invariant-loop-offer : goal.invariant-loop-offer
-invariant-loop-offer l = l.list.items ++ map (open_offer l.master) l.offer-iterator ≡ l.fn.list.items ++ map (open_offer l.master) l.fn.offers

@@ -1,5 +1,0 @@
-use Rattle.desk_core.proofs.Groups.{nobody_wakes}
-use Rattle.desk_core.proofs.running.awaited.no_output_wakes_nobody.Goals as goal
-
-pub returns : goal.returns
-returns c = nobody_wakes

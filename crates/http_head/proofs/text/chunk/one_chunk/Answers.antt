@@ -1,5 +1,0 @@
-use Rattle.http_head.proofs.Chunks.{in_parts}
-use Rattle.http_head.proofs.text.chunk.one_chunk.Goals as goal
-
-pub returns : goal.returns
-returns c = in_parts

@@ -1,7 +1,0 @@
-use Rattle.std.proofs.Common.{◌≡◌, ◌++◌, map}
-use Rattle.cluster_model.specs.Sides.{unended}
-use Rattle.master_rounds.specs.Allocations.{job_allocation}
-use Rattle.master_rounds.proofs.shares.found.push_tasks.Given as goal
-
-abbrev pub invariant-loop-task : goal.invariant-loop-task
-invariant-loop-task l = l.allocations.items ++ map job_allocation (unended l.task-iterator) ≡ l.fn.allocations.items ++ map job_allocation (unended l.fn.tasks)

@@ -1,5 +1,0 @@
-use Rattle.master_rounds.proofs.Picking.{picks_alike}
-use Rattle.master_rounds.proofs.shares.laws.picks_alike.Goals as goal
-
-pub returns : goal.returns
-returns c = picks_alike

@@ -1,5 +1,0 @@
-use Rattle.master_state.proofs.Ordered.{put_changed}
-use Rattle.master_state.proofs.registry.laws.puts_are_changes.Goals as goal
-
-pub returns : goal.returns
-returns c = put_changed
