@@ -27,7 +27,7 @@ use Rattle.cluster_channels.specs.Queueing.{IsFirstWaiting, direction_in, hands_
 use Rattle.cluster_channels.specs.Queueing as queue
 use Rattle.cluster_channels.proofs.Lists.{each_passes}
 use Rattle.cluster_agents.proofs.Finding.{bytes_same}
-use Rattle.cluster_core.specs.Keeping.{IsKept}
+use Rattle.cluster_core.specs.Keeping.{ClusterInvariant}
 use Rattle.cluster_core.specs.Putting.{ArePut, direction_of, place_in, place_or_end}
 use Rattle.cluster_core.specs.Reading.{IsNextFrom, IsNextTo, NoneFrom, NoneTo}
 use Rattle.cluster_core.specs.Stories.{Story, state_of}
@@ -110,7 +110,7 @@ pub record Queued (c : Cluster) (agents : List ConfiguredAgent) (sent : List Ite
 abbrev pub NamesLaw : Type 0
 NamesLaw = (setup : Setup) (records : List RecordParts) (steps : List Marked) → names_of (history setup records steps).state.world.channels ≡ map (λ d. d.name) records
 
-pub queued_so : {T : Type 0} → NamesLaw → (s : Story) (opened : Outputs) (p : ClusterState T) (queued : List queue.Item) → IsKept s opened p (length queued) (direction_in queued) → Queued (state_of s) p.config p.served.items queued
+pub queued_so : {T : Type 0} → NamesLaw → (s : Story) (opened : Outputs) (p : ClusterState T) (queued : List queue.Item) → ClusterInvariant s opened p (length queued) (direction_in queued) → Queued (state_of s) p.config p.served.items queued
 queued_so law s opened p queued k = record {
   stand = k.stands.as_others.as_items;
   counted = k.counted;

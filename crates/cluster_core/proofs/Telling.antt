@@ -19,7 +19,7 @@ use Rattle.messages.specs.declared.entries.Outputs.{Outputs}
 use Rattle.messages.specs.declared.steps.ClusterFault.TheVariants as faults
 use Rattle.messages.specs.declared.steps.Step.{Step}
 use Rattle.cluster_agents.specs.Handing.{MayRefuse}
-use Rattle.cluster_core.specs.Keeping.{IsKept, IsRefused, IsTaken, entry_made, taken_made}
+use Rattle.cluster_core.specs.Keeping.{ClusterInvariant, IsRefused, IsTaken, entry_made, taken_made}
 use Rattle.cluster_channels.specs.declared.posts.Direction.{Direction}
 use Rattle.cluster_agents.specs.Moves.{Reached}
 use Rattle.cluster_parts.specs.Parts.{AreParts, ArePartsBy, PartsOf, Same, Stands, Takes, record_of}
@@ -79,10 +79,10 @@ none_left s e = grind (arith, nat_tests)
 abbrev pub reached : CountLaw → (s : Story) → IsLegal s → length s.entries < 4294967294 → Reached (state_of s)
 reached law s l h = record { setup = s.setup; records = s.records; steps = map marked_of s.entries; good = l.good; recorded = l.recorded; is = refl; room = has_room law s l h }
 
-pub parts_of_story : {T : Type 0} → CountLaw → (s : Story) (opened : Outputs) (p : ClusterState T) (count : ℕ) (ways : ℕ → Option Direction) → IsKept s opened p count ways → length s.entries < 4294967294 → PartsOf (state_of s) p
+pub parts_of_story : {T : Type 0} → CountLaw → (s : Story) (opened : Outputs) (p : ClusterState T) (count : ℕ) (ways : ℕ → Option Direction) → ClusterInvariant s opened p count ways → length s.entries < 4294967294 → PartsOf (state_of s) p
 parts_of_story law s opened p count ways k h = record { reached = reached law s k.legal h; config = k.config; stands = k.stands }
 
-pub are_parts : {T : Type 0} → CountLaw → (s : Story) (opened : Outputs) (p : ClusterState T) (count : ℕ) (ways : ℕ → Option Direction) → IsKept s opened p count ways → length s.entries < 4294967294 → AreParts p
+pub are_parts : {T : Type 0} → CountLaw → (s : Story) (opened : Outputs) (p : ClusterState T) (count : ℕ) (ways : ℕ → Option Direction) → ClusterInvariant s opened p count ways → length s.entries < 4294967294 → AreParts p
 are_parts law s opened p count ways k h = (state_of s, parts_of_story law s opened p count ways k h)
 
 -- their rounds of offers go by the story's weights
@@ -90,7 +90,7 @@ are_parts law s opened p count ways k h = (state_of s, parts_of_story law s open
 abbrev pub WeightsLaw : Type 0
 WeightsLaw = (setup : Setup) (records : List RecordParts) (steps : List Marked) → (history setup records steps).state.weights ≡ setup.weights
 
-pub parts_by : {T : Type 0} → CountLaw → WeightsLaw → (s : Story) (opened : Outputs) (p : ClusterState T) (count : ℕ) (ways : ℕ → Option Direction) → IsKept s opened p count ways → length s.entries < 4294967294 → ArePartsBy s.setup.weights p
+pub parts_by : {T : Type 0} → CountLaw → WeightsLaw → (s : Story) (opened : Outputs) (p : ClusterState T) (count : ℕ) (ways : ℕ → Option Direction) → ClusterInvariant s opened p count ways → length s.entries < 4294967294 → ArePartsBy s.setup.weights p
 parts_by law weights s opened p count ways k h = (state_of s, parts_of_story law s opened p count ways k h, weights s.setup s.records (map marked_of s.entries))
 
 -- ---- refusals
@@ -120,7 +120,7 @@ refused_so c gives step faults.NoSuchAgent room (inl e) = marks c (unmarked step
 refused_so c gives step faults.NoSuchAgent room (inr w) = absurd (let clash : faults.NoSuchAgent ≡ faults.NoSuchMail = w.0 in cc)
 refused_so c gives step faults.OutOfMemory room h = room
 
-pub step_refused : {T : Type 0} → CountLaw → (s : Story) (opened : Outputs) (p : ClusterState T) (count : ℕ) (ways : ℕ → Option Direction) (gives : ℕ → Bool) (step : Step) (fault : ClusterFault) → IsKept s opened p count ways → length s.entries < 4294967294 →
+pub step_refused : {T : Type 0} → CountLaw → (s : Story) (opened : Outputs) (p : ClusterState T) (count : ℕ) (ways : ℕ → Option Direction) (gives : ℕ → Bool) (step : Step) (fault : ClusterFault) → ClusterInvariant s opened p count ways → length s.entries < 4294967294 →
     ((c : Cluster) → PartsOf c p → MayRefuse c gives step fault) → IsRefused (state_of s) gives step fault
 step_refused law s opened p count ways gives step fault k h why = refused_so (state_of s) gives step fault (has_room law s k.legal h) (why (state_of s) (parts_of_story law s opened p count ways k h))
 
@@ -150,9 +150,9 @@ story_more s e d l step is = record {
 made_marks : {T : Type 0} → CountLaw → (s : Story) (step : Step) (made : StepOutcome) (q : ClusterState T) → IsLegal s → length s.entries < 4294967294 → (t : Takes (state_of s) step made q) → step_marked (state_of s) (marked_of (entry_made step made)) ≡ Ok t.done
 made_marks law s step made q l h t = marks (state_of s) (marked_of (entry_made step made)) (has_room law s l h) ∙ t.answers
 
-pub keeps_on : {T : Type 0} → CountLaw → ItemsLaw → (s : Story) (opened : Outputs) (p q : ClusterState T) (count before more : ℕ) (ways between news : ℕ → Option Direction) (step : Step) (made : StepOutcome) → IsKept s opened p count ways → length s.entries < 4294967294 →
+pub keeps_on : {T : Type 0} → CountLaw → ItemsLaw → (s : Story) (opened : Outputs) (p q : ClusterState T) (count before more : ℕ) (ways between news : ℕ → Option Direction) (step : Step) (made : StepOutcome) → ClusterInvariant s opened p count ways → length s.entries < 4294967294 →
     Takes (state_of s) step made q → q.config ≡ p.config → more ≡ length q.served.items → before ≡ length p.served.items → ((n : ℕ) → between n ≡ ways n) → ((n : ℕ) → n ≤ before → news n ≡ between n) → ArePut before q.config q.served.items news →
-    IsKept (with_entry s (entry_made step made)) opened q more news
+    ClusterInvariant (with_entry s (entry_made step made)) opened q more news
 keeps_on law items_law s opened p q count before more ways between news step made k h t config counted there same older behind =
     let e = entry_made step made in
     let step_is : step_marked (state_of s) (marked_of e) ≡ Ok t.done = made_marks law s step made q k.legal h t in
@@ -181,7 +181,7 @@ takes_on law s q step made l h t =
       is_history = refl;
     }
 
-pub stays : {T : Type 0} → (s : Story) (opened : Outputs) (p q : ClusterState T) (count more : ℕ) (ways news : ℕ → Option Direction) → IsKept s opened p count ways → Same p q → more ≡ count → ((n : ℕ) → news n ≡ ways n) → IsKept s opened q more news
+pub stays : {T : Type 0} → (s : Story) (opened : Outputs) (p q : ClusterState T) (count more : ℕ) (ways news : ℕ → Option Direction) → ClusterInvariant s opened p count ways → Same p q → more ≡ count → ((n : ℕ) → news n ≡ ways n) → ClusterInvariant s opened q more news
 stays s opened p q count more ways news k same m alike = record {
   legal = k.legal;
   short = k.short;
@@ -203,7 +203,7 @@ stays s opened p q count more ways news k same m alike = record {
 }
 
 -- they stand so whatever the post has
-pub posted : {T : Type 0} → (s : Story) (opened : Outputs) (p : ClusterState T) (post : T) (count : ℕ) (ways : ℕ → Option Direction) → IsKept s opened p count ways → IsKept s opened (record p { served = record p.served { post = post } }) count ways
+pub posted : {T : Type 0} → (s : Story) (opened : Outputs) (p : ClusterState T) (post : T) (count : ℕ) (ways : ℕ → Option Direction) → ClusterInvariant s opened p count ways → ClusterInvariant s opened (record p { served = record p.served { post = post } }) count ways
 posted s opened p post count ways k = record {
   legal = k.legal;
   short = k.short;
@@ -222,7 +222,7 @@ posted s opened p post count ways k = record {
 -- ---- the opening
 
 pub opens_so : {T : Type 0} → (setup : Setup) (records : List RecordParts) (es : List Entry) (opened : Outputs) (p : ClusterState T) (o : Opened T) (count : ℕ) (ways : ℕ → Option Direction) → es ≡ [] → GoodOpening setup.run records → AreRecorded records → Opens setup records o → AreAgentsOf p.config records → p.agents.items ≡ o.agents.items →
-    p.served.master ≡ o.served.master → p.served.items ≡ o.served.items → p.served.streams ≡ o.served.streams → p.run ≡ setup.run → p.last_tick ≡ 0 → opened ≡ o.outputs → count ≡ length p.served.items → ArePut 0 p.config p.served.items ways → IsKept (record { setup = setup; records = records; entries = es }) opened p count ways
+    p.served.master ≡ o.served.master → p.served.items ≡ o.served.items → p.served.streams ≡ o.served.streams → p.run ≡ setup.run → p.last_tick ≡ 0 → opened ≡ o.outputs → count ≡ length p.served.items → ArePut 0 p.config p.served.items ways → ClusterInvariant (record { setup = setup; records = records; entries = es }) opened p count ways
 opens_so setup records [] opened p o count ways none good recorded opens config agents master items streams in_run tick outputs counted put = record {
   legal = record { good = good; recorded = recorded; legal = refl };
   short = omega arith;

@@ -42,7 +42,7 @@ story_of h =
 
 -- its story is legal, its parts represent the state in which the story ends,
 -- and the post has had all that was sent, each item in its direction
-pub record IsKept {T : Type 0} (s : Story) (opened : Outputs) (p : ClusterState T) (count : ℕ)
+pub record ClusterInvariant {T : Type 0} (s : Story) (opened : Outputs) (p : ClusterState T) (count : ℕ)
     (directions : ℕ → Option Direction) : Type 0 where
   pub legal : IsLegal s
   pub short : length s.entries < 4294967295

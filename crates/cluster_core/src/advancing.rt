@@ -1,7 +1,7 @@
 //! A history goes on by one step.
 
 ghost use Rattle.std.specs.Prelude.{◌≡◌, ◌<◌, ◌≤◌, ◌+◌, drop, fold, length, map, vec_capacity, vec_len, nat_le, Err, IfOk, IfErr, IfSome, OnErr, OnOk, ℕ};
-ghost use Rattle.cluster_core.specs.Keeping.{IsFull, IsKept, IsRefused, IsTaken, entry_made, known_after, story_of, taken_made};
+ghost use Rattle.cluster_core.specs.Keeping.{IsFull, ClusterInvariant, IsRefused, IsTaken, entry_made, known_after, story_of, taken_made};
 ghost use Rattle.cluster_core.specs.Putting.{ArePut, direction_of, place_in, place_or_end, with_handed};
 ghost use Rattle.cluster_core.specs.Stories.{state_of, with_entry};
 ghost use Rattle.cluster_agents.specs.Handing.{IsGiven, handed};
@@ -196,9 +196,9 @@ pub fn advance<P: Post>(
     alloc: Global,
     step: Step,
 ) -> Result<Taken, ClusterFault>
-    requires { IsKept (story_of history.old) history.old.opened parts.old
+    requires { ClusterInvariant (story_of history.old) history.old.opened parts.old
         (P.count (P.known parts.old.served.post)) (P.direction_at (P.known parts.old.served.post)) }
-    ensures kept { IsKept (story_of history.new) history.new.opened parts.new
+    ensures kept { ClusterInvariant (story_of history.new) history.new.opened parts.new
         (P.count (P.known parts.new.served.post)) (P.direction_at (P.known parts.new.served.post)) }
     ensures taken { IfOk result
         (λ taken. IsTaken (story_of history.old) step taken (story_of history.new)) }

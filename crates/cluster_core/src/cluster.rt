@@ -57,13 +57,13 @@ impl<P: Post + Drop> Drop for Cluster<P> {
 }
 
 impl<P: Post + Drop> Model for Cluster<P> {
-    ghost use Rattle.cluster_core.specs.Keeping.{IsKept, Known, story_of};
+    ghost use Rattle.cluster_core.specs.Keeping.{ClusterInvariant, Known, story_of};
 
     ghost Value = { Known P };
 
     ghost view = { λ c. record { story = story_of c.history; post = c.parts.served.post } };
 
-    ghost invariant = { λ c. IsKept (story_of c.history) c.history.opened c.parts
+    ghost invariant = { λ c. ClusterInvariant (story_of c.history) c.history.opened c.parts
         (P.count (P.known c.parts.served.post))
         (P.direction_at (P.known c.parts.served.post)) };
 }

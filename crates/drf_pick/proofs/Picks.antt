@@ -208,32 +208,32 @@ le_order t sound =
 abbrev lesser : Tally → Holder → Holder → Holder
 lesser t d c = cond (comes_before t c d) c d
 
-record Low (t : Tally) (x : Holder) (xs : List Holder) (m : Holder) : Type 0 where
+record IsLeastSoFar (t : Tally) (x : Holder) (xs : List Holder) (m : Holder) : Type 0 where
   there : Among m (x ∷ xs)
   least : (y : Holder) → Among y (x ∷ xs) → le_of t m y ≡ true
 
-low : (t : Tally) → IsPreorder (le_of t) → (x : Holder) (xs : List Holder) → Low t x xs (fold (lesser t) x xs)
+low : (t : Tally) → IsPreorder (le_of t) → (x : Holder) (xs : List Holder) → IsLeastSoFar t x xs (fold (lesser t) x xs)
 low t o x [] = record { there = inl refl; least = only } where
   only : (y : Holder) → Among y (x ∷ []) → le_of t x y ≡ true
   only y (inl e) = ap (le_of t x) e ∙ itself (le_of t) o x
   only y (inr i) = absurd i
 low t o x (y ∷ ys) = by_case (λ z. low t o z ys) (cases_Bool (comes_before t y x)) where
-  by_case : ((z : Holder) → Low t z ys (fold (lesser t) z ys)) → ((comes_before t y x ≡ true) ⊎ (comes_before t y x ≡ false)) → Low t x (y ∷ ys) (fold (lesser t) (lesser t x y) ys)
+  by_case : ((z : Holder) → IsLeastSoFar t z ys (fold (lesser t) z ys)) → ((comes_before t y x ≡ true) ⊎ (comes_before t y x ≡ false)) → IsLeastSoFar t x (y ∷ ys) (fold (lesser t) (lesser t x y) ys)
   by_case more (inr e) = rw e (kept (more x)) where
-    kept : Low t x ys (fold (lesser t) x ys) → Low t x (y ∷ ys) (fold (lesser t) x ys)
+    kept : IsLeastSoFar t x ys (fold (lesser t) x ys) → IsLeastSoFar t x (y ∷ ys) (fold (lesser t) x ys)
     kept w = record { there = place w.there; least = each w } where
       place : Among (fold (lesser t) x ys) (x ∷ ys) → Among (fold (lesser t) x ys) (x ∷ (y ∷ ys))
       place (inl i) = inl i
       place (inr i) = inr (inr i)
 
-      each : Low t x ys (fold (lesser t) x ys) → (z : Holder) → Among z (x ∷ (y ∷ ys)) → le_of t (fold (lesser t) x ys) z ≡ true
+      each : IsLeastSoFar t x ys (fold (lesser t) x ys) → (z : Holder) → Among z (x ∷ (y ∷ ys)) → le_of t (fold (lesser t) x ys) z ≡ true
       each v z (inl i) = v.least z (inl i)
       each v z (inr (inl i)) = ap (le_of t (fold (lesser t) x ys)) i ∙ o.trans (fold (lesser t) x ys) x y (v.least x (inl refl)) (ap not e)
       each v z (inr (inr i)) = v.least z (inr i)
   by_case more (inl e) = rw e (moved (more y)) where
-    moved : Low t y ys (fold (lesser t) y ys) → Low t x (y ∷ ys) (fold (lesser t) y ys)
+    moved : IsLeastSoFar t y ys (fold (lesser t) y ys) → IsLeastSoFar t x (y ∷ ys) (fold (lesser t) y ys)
     moved w = record { there = inr w.there; least = each w } where
-      each : Low t y ys (fold (lesser t) y ys) → (z : Holder) → Among z (x ∷ (y ∷ ys)) → le_of t (fold (lesser t) y ys) z ≡ true
+      each : IsLeastSoFar t y ys (fold (lesser t) y ys) → (z : Holder) → Among z (x ∷ (y ∷ ys)) → le_of t (fold (lesser t) y ys) z ≡ true
       each v z (inl i) = ap (le_of t (fold (lesser t) y ys)) i ∙ o.trans (fold (lesser t) y ys) y x (v.least y (inl refl)) (o.total x y (ap not e))
       each v z (inr i) = v.least z i
 

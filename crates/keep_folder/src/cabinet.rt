@@ -5,7 +5,7 @@ ghost use Rattle.sqlite.specs.State.{HasCleanDisk};
 ghost use Rattle.sqlite.specs.Files.{file_state};
 ghost use Rattle.keep_folder.specs.Given.{GivesRecord, GivesRun};
 
-use crate::stores::{FilePlace, Given, OpenStore, Request, ask_at};
+use crate::stores::{FilePlace, OpenStore, Request, RunAndRecord, ask_at};
 use agent_core::{Cabinet, Record};
 use keep_store::KeepFault;
 use names_core::AgentName;
@@ -117,7 +117,7 @@ impl OpenFiles {
         place: &FilePlace<'_>,
         alloc: Global,
         request: Request<'_>,
-    ) -> Result<Given, KeepFault>
+    ) -> Result<RunAndRecord, KeepFault>
         ensures run { request.entry ≡ Request.NextRun → IfOk result (λ given. IsSomeAnd
             self.new.store (λ keeper. HasCleanDisk (file_state keeper)
             → IsSomeAnd given.run (GivesRun (file_state keeper)))) }

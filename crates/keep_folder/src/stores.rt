@@ -71,7 +71,7 @@ pub(crate) enum Request<'r> {
 
 /// The answer of a store to a request.
 #[derive(Drop)]
-pub(crate) struct Given {
+pub(crate) struct RunAndRecord {
     /// The run that was taken; None where none was requested, or the number is that of no run.
     pub run: Option<Run>,
     /// The record that it keeps; None where none was requested, or none was ever kept.
@@ -155,7 +155,7 @@ fn run_of(number: u32) -> Option<Run>
 }
 
 /// A store, with the run that it takes, the one after its last.
-fn run_given<S: Alter + Drop>(mut keeper: Keeper<S>) -> Result<(Keeper<S>, Given), KeepFault>
+fn run_given<S: Alter + Drop>(mut keeper: Keeper<S>) -> Result<(Keeper<S>, RunAndRecord), KeepFault>
     requires { IsUsable (state S.Store keeper) }
     ensures usable { IfOk result (λ it. IsUsable (state S.Store it.0)) }
     ensures run { IfOk result (λ it. HasCleanDisk (state S.Store it.0)
@@ -166,14 +166,14 @@ fn run_given<S: Alter + Drop>(mut keeper: Keeper<S>) -> Result<(Keeper<S>, Given
     let number = keeper.next_run()?;
     let run = run_of(number);
     let record = None;
-    Ok((keeper, Given { run, record }))
+    Ok((keeper, RunAndRecord { run, record }))
 }
 
 /// A store, with the record that it keeps.
 fn record_given<S: Alter + Drop>(
     mut keeper: Keeper<S>,
     alloc: Global,
-) -> Result<(Keeper<S>, Given), KeepFault>
+) -> Result<(Keeper<S>, RunAndRecord), KeepFault>
     requires { IsUsable (state S.Store keeper) }
     ensures usable { IfOk result (λ it. IsUsable (state S.Store it.0)) }
     ensures found { IfOk result (λ it. HasCleanDisk (state S.Store it.0)
@@ -181,7 +181,7 @@ fn record_given<S: Alter + Drop>(
 {
     let record = keeper.load(alloc)?;
     let run = None;
-    Ok((keeper, Given { run, record }))
+    Ok((keeper, RunAndRecord { run, record }))
 }
 
 /// A store, once it keeps a record in place of the one before.
@@ -189,7 +189,7 @@ fn record_kept<S: Alter + Drop>(
     mut keeper: Keeper<S>,
     alloc: Global,
     durable: &Record,
-) -> Result<(Keeper<S>, Given), KeepFault>
+) -> Result<(Keeper<S>, RunAndRecord), KeepFault>
     requires { IsUsable (state S.Store keeper) }
     ensures usable { IfOk result (λ it. IsUsable (state S.Store it.0)) }
     ensures kept { IfOk result (λ it. HasCleanDisk (state S.Store it.0)
@@ -200,7 +200,7 @@ fn record_kept<S: Alter + Drop>(
 {
     keeper.save(alloc, durable)?;
     let (run, record) = (None, None);
-    Ok((keeper, Given { run, record }))
+    Ok((keeper, RunAndRecord { run, record }))
 }
 
 /// A store, with its answer to a request.
@@ -208,7 +208,7 @@ fn answered<S: Alter + Drop>(
     keeper: Keeper<S>,
     alloc: Global,
     request: Request<'_>,
-) -> Result<(Keeper<S>, Given), KeepFault>
+) -> Result<(Keeper<S>, RunAndRecord), KeepFault>
     requires { IsUsable (state S.Store keeper) }
     ensures usable { IfOk result (λ it. IsUsable (state S.Store it.0)) }
     ensures run { request.entry ≡ Request.NextRun
@@ -262,7 +262,7 @@ pub(crate) fn ask_at<P: Place>(
     store: &mut OpenStore<P::Store>,
     alloc: Global,
     request: Request<'_>,
-) -> Result<Given, KeepFault>
+) -> Result<RunAndRecord, KeepFault>
     ensures run { request.entry ≡ Request.NextRun → IfOk result (λ given. IsSomeAnd store.new
         (λ keeper. HasCleanDisk (state P.Store.Store keeper)
         → IsSomeAnd given.run (GivesRun (state P.Store.Store keeper)))) }

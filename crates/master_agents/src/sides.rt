@@ -92,7 +92,7 @@ impl Sides {
     }
 
     /// The agents are in byte order of their names, none twice.
-    pub fn stand_in_order(&self)
+    pub fn names_are_sorted(&self)
         ensures { are_ordered (side_names self.now) ≡ true }
     {
         let _roster = &self.roster;

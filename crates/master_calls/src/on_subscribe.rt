@@ -65,7 +65,7 @@ fn subscribe_on(
         ≡ done (subscribed_on (master_of state.old) (registers_of state.old) id role known)
         (work_of state.old)) }
 {
-    state.sides.stand_in_order();
+    state.sides.names_are_sorted();
     leave(state, alloc, known)?;
     enter(state, alloc, id, role)
 }

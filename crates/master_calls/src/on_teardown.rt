@@ -62,7 +62,7 @@ pub fn teardown(
         Err(refusal) => return Err(MasterFault::Refused(refusal)),
     };
     let _known = state.frameworks.as_slice();
-    state.sides.stand_in_order();
+    state.sides.names_are_sorted();
     if state.sides.lacks_numbers(framework) {
         return Err(MasterFault::Refused(MasterRefusal::LimitExceeded));
     }

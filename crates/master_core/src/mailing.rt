@@ -41,7 +41,7 @@ pub fn hang_up(state: &mut State, stream: StreamId) -> Result<(), AllocError>
     let Some(framework) = state.frameworks.subscriber_on(stream) else {
         return Ok(());
     };
-    state.sides.stand_in_order();
+    state.sides.names_are_sorted();
     let _known = state.frameworks.as_slice();
     state.withdraw_of(framework);
     state.frameworks.close_stream(framework);
@@ -83,7 +83,7 @@ pub fn tick(state: &mut State, alloc: Global, now: u32) -> Result<(), AllocError
     ensures { OnOk result (work_of state.new
         ≡ done (ticked (master_of state.old) now) (work_of state.old)) }
 {
-    state.sides.stand_in_order();
+    state.sides.names_are_sorted();
     sending::send_heartbeats(now, state.frameworks.as_slice(), &mut state.outs.events)?;
     state.frameworks.beat(now);
     state.moment = now;

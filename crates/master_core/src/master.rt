@@ -94,7 +94,7 @@ impl Master {
     {
         let _agents = config.agents();
         let mut state = State::new(alloc, run, config)?;
-        state.sides.stand_in_order();
+        state.sides.names_are_sorted();
         let run = state.run;
         state.sides.send_again(alloc, run, &mut state.outs.mails)?;
         let outs = state.take_outs(alloc);

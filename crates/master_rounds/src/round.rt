@@ -101,7 +101,7 @@ pub fn allocate(state: &mut State, alloc: Global, weights: &Weights) -> Result<(
         (entered state.old.sides state.new.sides)) }
 {
     state.sides.own_rows();
-    state.sides.stand_in_order();
+    state.sides.names_are_sorted();
     let (made, next) = next_offers(state, alloc, weights)?;
     offer_all(&mut state.sides, made.as_slice())?;
     state.next_offer = next;

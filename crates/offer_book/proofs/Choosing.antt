@@ -6,7 +6,7 @@ use Rattle.std.proofs.lemmas.List.{append-nil}
 use Rattle.names_core.specs.Ids.{Numbered, before}
 use Rattle.messages.specs.declared.task.Booked.{Booked}
 use Rattle.offer_book.specs.Lists.{Located, same_id, find}
-use Rattle.offer_book.specs.Names.{Names, IsIndex, is_among, keys_named}
+use Rattle.offer_book.specs.Names.{NameIndex, IsIndex, is_among, keys_named}
 use Rattle.offer_book.specs.Held.{better, first_of, goes_before, IsHeld, IsTaskOf}
 use Rattle.offer_book.proofs.Ids.{same_id-true, same_id-refl}
 use Rattle.offer_book.proofs.Standing.{find_has}
@@ -137,7 +137,7 @@ module _ (l : List (List Booked)) where
       subst (λ js. IsFirst js (fold (λ b j. better b (find key_of j l)) (better best (find key_of k l)) ks)) (append_assoc done (k ∷ []) ks)
       (first_fold (done ++ k ∷ []) ks (better best (find key_of k l)) (first_step done k best is))
 
-  pub held_is : (names : Names) (framework : Numbered) (text : List ℕ) → IsIndex names l → IsHeld framework text l (first_of l (keys_named framework text names))
+  pub held_is : (names : NameIndex) (framework : Numbered) (text : List ℕ) → IsIndex names l → IsHeld framework text l (first_of l (keys_named framework text names))
   held_is names framework text is = by (first_of l (keys_named framework text names)) (first_fold [] (keys_named framework text names) None (λ k e no found. absurd (true≢false (sym no))))
     where
       among : (e : Located Booked) → IsTaskOf framework text l e → is_among e.item.job.key (keys_named framework text names) ≡ true

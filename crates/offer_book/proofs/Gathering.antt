@@ -11,7 +11,7 @@ use Rattle.std.specs.Map.{lookup, values_of}
 use Rattle.names_core.specs.Ids.{Numbered}
 use Rattle.messages.specs.declared.task.Booked.{Booked}
 use Rattle.offer_book.specs.Lists.{Located, same_id, find}
-use Rattle.offer_book.specs.Names.{AreAll, IsIndex, Names, Texts, has_name, is_among, is_framework_of, is_named, keys_in, keys_named, keys_under}
+use Rattle.offer_book.specs.Names.{AreAll, IsIndex, NameIndex, Texts, has_name, is_among, is_framework_of, is_named, keys_in, keys_named, keys_under}
 
 pub if_ok_map : {X E : Type 0} {P Q : X → Type 0} (r : Result X E) → IfOk r P → ((x : X) → P x → Q x) → IfOk r Q
 if_ok_map (Ok x) p f = f x p
@@ -80,7 +80,7 @@ first_half : (a b : Bool) → (a && b) ≡ true → a ≡ true
 first_half true b h = refl
 first_half false b h = absurd (true≢false (sym h))
 
-pub keys_are : (names : Names) (l : List (List Booked)) (f : Numbered) (ks : List Numbered) → IsIndex names l → AreAll (λ text. keys_named f text names) ks
+pub keys_are : (names : NameIndex) (l : List (List Booked)) (f : Numbered) (ks : List Numbered) → IsIndex names l → AreAll (λ text. keys_named f text names) ks
     → (key : Numbered) → is_among key ks ≡ is_framework_of f (find (λ x. x.job.key) key l)
 keys_are names l f ks index a key = both_ways (is_among key ks) (is_framework_of f (find (λ x. x.job.key) key l)) there (back (find (λ x. x.job.key) key l) refl)
   where

@@ -6,7 +6,7 @@ use Rattle.names_core.specs.Ids.{Numbered}
 use Rattle.messages.specs.declared.task.Booked.{Booked}
 use Rattle.offer_book.specs.Lists.{Located, same_id, at_place, list_at, ids_of, find, without, Once}
 use Rattle.offer_book.specs.Tables.{moved}
-use Rattle.offer_book.specs.Names.{Names, IsIndex, is_among, is_named, has_name, keys_named}
+use Rattle.offer_book.specs.Names.{NameIndex, IsIndex, is_among, is_named, has_name, keys_named}
 use Rattle.offer_book.proofs.Ids.{same_id_equiv, same_id-true, same_id-refl}
 use Rattle.offer_book.proofs.Placing.{found_push, find_more}
 use Rattle.offer_book.proofs.Taking.{find_without, find_clear, find_map}
@@ -32,14 +32,14 @@ among_filter k key (j ∷ ks) =
     (cases_Bool (same_id k j))))
     (cases_Bool (same_id key j))
 
-pub index_more : (names : Names) (l : List (List Booked)) → IsIndex names l → IsIndex names (l ++ [] ∷ [])
+pub index_more : (names : NameIndex) (l : List (List Booked)) → IsIndex names l → IsIndex names (l ++ [] ∷ [])
 index_more names l is f text k = is f text k ∙ ap (is_named f text) (sym (find_more key_of l zero k))
 
-pub index_same : (old new : Names) (l : List (List Booked)) → IsIndex old l → ((f : Numbered) (text : List ℕ) → keys_named f text new ≡ keys_named f text old) → IsIndex new l
+pub index_same : (old new : NameIndex) (l : List (List Booked)) → IsIndex old l → ((f : Numbered) (text : List ℕ) → keys_named f text new ≡ keys_named f text old) → IsIndex new l
 index_same old new l is same f text k = ap (is_among k) (same f text) ∙ is f text k
 
 -- a task more
-pub index_push : (old new : Names) (l : List (List Booked)) (n : ℕ) (b : Booked) → n < length l → find key_of b.job.key l ≡ None → IsIndex old l
+pub index_push : (old new : NameIndex) (l : List (List Booked)) (n : ℕ) (b : Booked) → n < length l → find key_of b.job.key l ≡ None → IsIndex old l
     → ((f : Numbered) (text : List ℕ) → keys_named f text new
     ≡ cond (is_named f text (find key_of b.job.key (at_place n (λ bs. bs ++ b ∷ []) l))) (keys_named f text old ++ b.job.key ∷ []) (keys_named f text old))
     → IsIndex new (at_place n (λ bs. bs ++ b ∷ []) l)
@@ -80,7 +80,7 @@ index_push old new l n b within fresh is at f text k =
         other false turned = refl
 
 -- a task less
-pub index_without : (old new : Names) (l : List (List Booked)) (key : Numbered) → IsIndex old l
+pub index_without : (old new : NameIndex) (l : List (List Booked)) (key : Numbered) → IsIndex old l
     → ((f : Numbered) (text : List ℕ) → keys_named f text new ≡ cond (is_named f text (find key_of key l)) (filter (λ k. not (same_id key k)) (keys_named f text old)) (keys_named f text old))
     → IsIndex new (map (without key_of key) l)
 index_without old new l key is at f text k =
@@ -100,7 +100,7 @@ index_without old new l key is at f text k =
         (cases_Bool (same_id key k))
 
 -- tasks that change, but not their jobs
-pub index_map : (names : Names) (l : List (List Booked)) (g : Booked → Booked) (keeps : (b : Booked) → (g b).job ≡ b.job) → IsIndex names l → IsIndex names (map (map g) l)
+pub index_map : (names : NameIndex) (l : List (List Booked)) (g : Booked → Booked) (keeps : (b : Booked) → (g b).job ≡ b.job) → IsIndex names l → IsIndex names (map (map g) l)
 index_map names l g keeps is f text k =
     is f text k ∙ sym (ap (is_named f text) (find_map key_of g (λ b. ap (λ j. j.key) (keeps b)) l zero k) ∙ by (find key_of k l))
   where
@@ -109,7 +109,7 @@ index_map names l g keeps is f text k =
     by (Some e) = ap (λ j. same_id j.framework f && bytes_eq j.name text) (keeps e.item)
 
 -- the names of one task more are forgotten
-pub forgotten_more : (between new : Names) (l : List (List Booked)) (keys : List Numbered) (i : ℕ) (key : Numbered) → i < length keys → key ≡ get_or keys i key
+pub forgotten_more : (between new : NameIndex) (l : List (List Booked)) (keys : List Numbered) (i : ℕ) (key : Numbered) → i < length keys → key ≡ get_or keys i key
     → ((f : Numbered) (text : List ℕ) (k : Numbered) → is_among k (keys_named f text between) ≡ cond (is_among k (take i keys)) false (is_named f text (find key_of k l)))
     → ((f : Numbered) (text : List ℕ) → keys_named f text new ≡ cond (is_named f text (find key_of key l)) (filter (λ k. not (same_id key k)) (keys_named f text between)) (keys_named f text between))
     → (f : Numbered) (text : List ℕ) (k : Numbered) → is_among k (keys_named f text new) ≡ cond (is_among k (take (i + 1) keys)) false (is_named f text (find key_of k l))
@@ -137,7 +137,7 @@ forgotten_more between new l keys i key within here upto at f text k =
         upto f text k ∙ plain (is_among k (take i keys)) (same_id k key) (is_named f text (find key_of k l))
         (λ t. subst (λ j. is_named f text (find key_of j l) ≡ false) (sym (same_id-true k key t)) e)
 
-pub index_clear : (new : Names) (l : List (List Booked)) (n : ℕ) → Once key_of zero l
+pub index_clear : (new : NameIndex) (l : List (List Booked)) (n : ℕ) → Once key_of zero l
     → ((f : Numbered) (text : List ℕ) (k : Numbered) → is_among k (keys_named f text new) ≡ cond (is_among k (ids_of key_of (list_at n l))) false (is_named f text (find key_of k l)))
     → IsIndex new (at_place n (λ bs. []) l)
 index_clear new l n once at f text k =

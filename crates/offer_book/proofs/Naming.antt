@@ -8,7 +8,7 @@ use Rattle.std.specs.Map.{update}
 use Rattle.std.specs.BTreeMap.{get, get_by_text, is_at}
 use Rattle.names_core.specs.Ids.{Numbered}
 use Rattle.offer_book.specs.Lists.{same_id}
-use Rattle.offer_book.specs.Names.{Names, Texts, id_cmp, keys_in, keys_under, keys_within, keys_named}
+use Rattle.offer_book.specs.Names.{NameIndex, Texts, id_cmp, keys_in, keys_under, keys_within, keys_named}
 use Rattle.offer_book.proofs.Ids.{same_id-true}
 
 -- one text's keys are changed
@@ -30,7 +30,7 @@ at_same : (a b : Numbered) → is_at (id_cmp a) b ≡ same_id a b
 at_same a b = grind (arith, nat_tests)
 
 -- one framework's texts are changed
-module _ (framework : Numbered) (old new : Names) (w : Option Texts)
+module _ (framework : Numbered) (old new : NameIndex) (w : Option Texts)
     (updates : (f : Numbered) → get id_cmp new.by_framework f ≡ cond (is_at (id_cmp framework) f) w (get id_cmp old.by_framework f)) where
   framework_changed : (f : Numbered) (text : List ℕ) → keys_named f text new ≡ cond (same_id framework f) (keys_within text w) (keys_named f text old)
   framework_changed f text =

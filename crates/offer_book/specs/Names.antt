@@ -9,7 +9,7 @@ use Rattle.names_core.specs.Ids.{Numbered}
 use Rattle.messages.specs.declared.task.Booked.{Booked}
 use Rattle.offer_book.specs.Lists.{Located, same_id, find}
 pub use Rattle.offer_book.specs.declared.names.Texts.{Texts}
-pub use Rattle.offer_book.specs.declared.names.Names.{Names}
+pub use Rattle.offer_book.specs.declared.names.NameIndex.{NameIndex}
 
 -- ids by run, then by number
 abbrev pub id_cmp : Numbered → Numbered → Ordering
@@ -28,7 +28,7 @@ keys_within text None = []
 keys_within text (Some t) = keys_under text t
 
 -- the keys that stand under a framework and a text
-abbrev pub keys_named : Numbered → List ℕ → Names → List Numbered
+abbrev pub keys_named : Numbered → List ℕ → NameIndex → List Numbered
 keys_named framework text names =
     keys_within text (get_by (id_cmp framework) names.by_framework)
 
@@ -44,7 +44,7 @@ is_named framework text None = false
 is_named framework text (Some e) = has_name framework text e.item
 
 -- under a framework and a name stand just the keys of its booked tasks of this name
-abbrev pub IsIndex : Names → List (List Booked) → Type 0
+abbrev pub IsIndex : NameIndex → List (List Booked) → Type 0
 IsIndex names l =
     (framework : Numbered) (text : List ℕ) (key : Numbered)
     → is_among key (keys_named framework text names)

@@ -10,7 +10,7 @@ ghost use Rattle.offer_book.specs.Names.{IsIndex, is_among, is_framework_of, is_
 ghost use Rattle.offer_book.specs.Held.{better, first_of, goes_before, IsHeld};
 
 use crate::located::Located;
-use crate::names::Names;
+use crate::names::NameIndex;
 use crate::tasks::{TaskUpdate, Tasks};
 use crate::walks::TasksAt;
 use messages::Booked;
@@ -23,7 +23,7 @@ use std::marker::Model;
 #[derive(Drop)]
 pub struct BookedTasks {
     tasks: Tasks,
-    names: Names,
+    names: NameIndex,
 }
 
 impl Model for BookedTasks {
@@ -82,7 +82,7 @@ fn first_of<'a>(tasks: &'a Tasks, keys: &[LaunchKey]) -> Option<&'a Located<Book
 
 /// The name of the task of this key is stored. Where memory is refused for it, nothing is.
 fn add_name(
-    names: &mut Names,
+    names: &mut NameIndex,
     tasks: &Tasks,
     alloc: Global,
     key: LaunchKey,
@@ -104,7 +104,7 @@ fn add_name(
 }
 
 /// The name of the task of this key is forgotten.
-fn forget_name(names: &mut Names, tasks: &Tasks, key: LaunchKey)
+fn forget_name(names: &mut NameIndex, tasks: &Tasks, key: LaunchKey)
     ensures { (f : Numbered) (text : List ℕ) → keys_named f text names.new
         ≡ (if is_named f text (find (λ x. x.job.key) key tasks.now)
         then filter (λ k. not (same_id key k)) (keys_named f text names.old)
@@ -116,7 +116,7 @@ fn forget_name(names: &mut Names, tasks: &Tasks, key: LaunchKey)
     }
 }
 
-fn forget_names(names: &mut Names, tasks: &Tasks, keys: &[LaunchKey])
+fn forget_names(names: &mut NameIndex, tasks: &Tasks, keys: &[LaunchKey])
     requires { IsIndex names.old tasks.now }
     ensures { (f : Numbered) (text : List ℕ) (k : Numbered)
         → is_among k (keys_named f text names.new)
@@ -135,7 +135,7 @@ impl BookedTasks {
     {
         BookedTasks {
             tasks: Tasks::new(alloc),
-            names: Names::new(alloc),
+            names: NameIndex::new(alloc),
         }
     }
 

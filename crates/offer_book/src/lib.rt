@@ -11,7 +11,7 @@ mod walks;
 
 pub use booked::BookedTasks;
 pub use located::Located;
-pub use names::Names;
+pub use names::NameIndex;
 pub use offers::Offers;
 pub use tasks::{TaskUpdate, Tasks};
 pub use walks::{OffersAt, TasksAt};

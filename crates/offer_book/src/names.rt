@@ -17,7 +17,7 @@ pub(crate) struct Texts {
 
 /// Launch keys, by framework and by the text of their tasks' name.
 #[derive(Drop)]
-pub struct Names {
+pub struct NameIndex {
     by_framework: BTreeMap<FrameworkId, Texts>,
 }
 
@@ -102,12 +102,12 @@ impl Texts {
     }
 }
 
-impl Names {
+impl NameIndex {
     /// No name.
-    pub fn new(alloc: Global) -> Names
+    pub fn new(alloc: Global) -> NameIndex
         ensures { (framework : Numbered) (text : List ℕ) → keys_named framework text result ≡ [] }
     {
-        Names {
+        NameIndex {
             by_framework: BTreeMap::new(alloc),
         }
     }

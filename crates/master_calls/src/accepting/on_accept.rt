@@ -183,7 +183,7 @@ pub fn accept(
         Err(refusal) => return Err(MasterFault::Refused(refusal)),
     };
     let _known = state.frameworks.as_slice();
-    state.sides.stand_in_order();
+    state.sides.names_are_sorted();
     let side = state.sides.good_side(framework, offers);
     if passes_limits(state, &side, tasks.len()) {
         return Err(MasterFault::Refused(MasterRefusal::LimitExceeded));

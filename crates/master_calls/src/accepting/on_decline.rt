@@ -129,7 +129,7 @@ pub fn decline(
         seconds,
     };
     let _known = state.frameworks.as_slice();
-    state.sides.stand_in_order();
+    state.sides.names_are_sorted();
     match refuse_each(&mut state.frameworks, alloc, &by, &state.sides, offers) {
         Ok(()) => {}
         Err(_) => return Err(MasterFault::OutOfMemory),

@@ -11,7 +11,7 @@ use Rattle.cluster_agents.specs.Handing.{handed}
 use Rattle.cluster_parts.specs.Parts.{ArePartsBy}
 use Rattle.cluster_parts.specs.declared.parts.ClusterState.{ClusterState}
 use Rattle.cluster_core.specs.Putting.{direction_of, with_handed}
-use Rattle.cluster_core.specs.Keeping.{IsKept, IsRefused, IsTaken, entry_made, story_of, taken_made}
+use Rattle.cluster_core.specs.Keeping.{ClusterInvariant, IsRefused, IsTaken, entry_made, story_of, taken_made}
 use Rattle.cluster_core.specs.Stories.{Story, state_of, with_entry}
 use Rattle.cluster_core.specs.declared.taken.Taken.{Taken}
 use Rattle.cluster_core.proofs.Puttings.{put_since, ways_by_names}
@@ -58,12 +58,12 @@ returns-in-Ok-clause-kept g c =
     (g.P.Post.direction_at (g.P.Post.known c.args.parts.now.served.post)) (g.P.Post.direction_at (g.P.Post.known c.take_step.new.self.served.post)) (g.P.Post.direction_at (g.P.Post.known c.hand_on.new.parts.served.post)) c.args.step c.in-Ok.made c.requires h t c.take_step.ensures.config c.hand_on.ensures.count
     there (λ n. ap (λ k. g.P.Post.direction_at k n) c.take_step.ensures.post) c.hand_on.ensures.directions c.hand_on.ensures.put in
     let news = g.P.Post.direction_at (g.P.Post.known c.hand_on.new.parts.served.post) in
-    let moved = subst (λ (x : ClusterState _). IsKept (with_entry s e) c.args.history.now.opened x (g.P.Post.count (g.P.Post.known c.hand_on.new.parts.served.post)) news) (sym c.hand_on.ensures.kept)
+    let moved = subst (λ (x : ClusterState _). ClusterInvariant (with_entry s e) c.args.history.now.opened x (g.P.Post.count (g.P.Post.known c.hand_on.new.parts.served.post)) news) (sym c.hand_on.ensures.kept)
     (posted (with_entry s e) c.args.history.now.opened c.take_step.new.self c.hand_on.new.parts.served.post _ news kept) in
     let entry_kept : story_of c.write_down.new.history ≡ with_entry s e =
     c.write_down.ensures.entry_kept ∙ ap (λ (x : Story). with_entry x e) c.make_room.ensures.story in
-    subst (λ (o : Outputs). IsKept (story_of c.write_down.new.history) o c.hand_on.new.parts (g.P.Post.count (g.P.Post.known c.hand_on.new.parts.served.post)) (g.P.Post.direction_at (g.P.Post.known c.hand_on.new.parts.served.post))) (sym (c.write_down.ensures.opened ∙ c.make_room.ensures.opened))
-    (subst (λ (x : Story). IsKept x c.args.history.now.opened c.hand_on.new.parts (g.P.Post.count (g.P.Post.known c.hand_on.new.parts.served.post)) (g.P.Post.direction_at (g.P.Post.known c.hand_on.new.parts.served.post))) (sym entry_kept) moved)
+    subst (λ (o : Outputs). ClusterInvariant (story_of c.write_down.new.history) o c.hand_on.new.parts (g.P.Post.count (g.P.Post.known c.hand_on.new.parts.served.post)) (g.P.Post.direction_at (g.P.Post.known c.hand_on.new.parts.served.post))) (sym (c.write_down.ensures.opened ∙ c.make_room.ensures.opened))
+    (subst (λ (x : Story). ClusterInvariant x c.args.history.now.opened c.hand_on.new.parts (g.P.Post.count (g.P.Post.known c.hand_on.new.parts.served.post)) (g.P.Post.direction_at (g.P.Post.known c.hand_on.new.parts.served.post))) (sym entry_kept) moved)
 
 pub returns-in-Ok-clause-taken : goal.returns-in-Ok-clause-taken
 returns-in-Ok-clause-taken g c =
@@ -107,5 +107,5 @@ returns-in-Err-clause-kept g c =
     let count = g.P.Post.count (g.P.Post.known c.take_step.new.self.served.post) in
     let ways = g.P.Post.direction_at (g.P.Post.known c.take_step.new.self.served.post) in
     let kept = stays (story_of c.args.history.now) opened p q (g.P.Post.count (g.P.Post.known c.args.parts.now.served.post)) count (g.P.Post.direction_at (g.P.Post.known c.args.parts.now.served.post)) ways c.requires c.in-Err.ensures.unchanged (ap g.P.Post.count c.take_step.ensures.post) (λ n. ap (λ k. g.P.Post.direction_at k n) c.take_step.ensures.post) in
-    subst (λ (o : Outputs). IsKept (story_of c.make_room.new.history) o q count ways) (sym c.make_room.ensures.opened)
-    (subst (λ (x : Story). IsKept x opened q count ways) (sym c.make_room.ensures.story) kept)
+    subst (λ (o : Outputs). ClusterInvariant (story_of c.make_room.new.history) o q count ways) (sym c.make_room.ensures.opened)
+    (subst (λ (x : Story). ClusterInvariant x opened q count ways) (sym c.make_room.ensures.story) kept)

@@ -11,5 +11,5 @@ enter-requires c = subst (λ n. n < last_number) (sym (ap (λ s. s.last_stream) 
 
 pub returns : goal.returns
 returns c = on_ok c.enter.result
-    (λ e. ap work_of (e ∙ ap (entered c.args.id c.args.role) c.in_ok-leave.ensures) ∙ entered_so c.args.state.now c.args.id c.args.role c.args.known c.stand_in_order.ensures)
+    (λ e. ap work_of (e ∙ ap (entered c.args.id c.args.role) c.in_ok-leave.ensures) ∙ entered_so c.args.state.now c.args.id c.args.role c.args.known c.names_are_sorted.ensures)
     c.enter.ensures

@@ -14,8 +14,8 @@ returns-then-lacks_numbers c = lacks_limit c.args.state.now c.args.given c.args.
 pub returns-in-Ok-end : goal.returns-in-Ok-end
 returns-in-Ok-end c =
     rw c.in-Ok-end.ensures
-    (tears_down c.args.state.now c.args.given c.args.framework c.in-Ok.stream c.lacks_numbers.result (sym c.admit.ensures ∙ c.in-Ok.is) c.as_slice-known.ensures.ordered c.stand_in_order.ensures c.lacks_numbers.ensures c.if-lacks_numbers.false)
+    (tears_down c.args.state.now c.args.given c.args.framework c.in-Ok.stream c.lacks_numbers.result (sym c.admit.ensures ∙ c.in-Ok.is) c.as_slice-known.ensures.ordered c.names_are_sorted.ensures c.lacks_numbers.ensures c.if-lacks_numbers.false)
 
 pub returns-in-Err-end : goal.returns-in-Err-end
 returns-in-Err-end c =
-    (tears_down c.args.state.now c.args.given c.args.framework c.in-Ok.stream c.lacks_numbers.result (sym c.admit.ensures ∙ c.in-Ok.is) c.as_slice-known.ensures.ordered c.stand_in_order.ensures c.lacks_numbers.ensures c.if-lacks_numbers.false).0
+    (tears_down c.args.state.now c.args.given c.args.framework c.in-Ok.stream c.lacks_numbers.result (sym c.admit.ensures ∙ c.in-Ok.is) c.as_slice-known.ensures.ordered c.names_are_sorted.ensures c.lacks_numbers.ensures c.if-lacks_numbers.false).0

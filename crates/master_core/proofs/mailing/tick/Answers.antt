@@ -10,5 +10,5 @@ returns c =
     let s = c.args.state.now in
     on_ok c.send_again.result
     (λ e. ap (λ mails. ticked_work s c.args.now c.beat.new.self c.send_heartbeats.new.events (moved_so (run_of s) s.sides mails) s.outs.opened s.outs.closed) e
-    ∙ rw (c.beat.ensures, c.in_ok-send_heartbeats.ensures, c.as_slice.ensures.items) (ticked_so s c.args.now c.stand_in_order.ensures))
+    ∙ rw (c.beat.ensures, c.in_ok-send_heartbeats.ensures, c.as_slice.ensures.items) (ticked_so s c.args.now c.names_are_sorted.ensures))
     c.send_again.ensures

@@ -16,7 +16,7 @@ send_offers-requires-clause-few c =
     let s = c.args.state.now in
     let r = c.in_ok-made.ensures.round in
     let ordered = subst (λ (t : State). are_ordered t.frameworks ≡ true) c.in_ok-made.ensures.state c.as_slice-frameworks.ensures.ordered in
-    let holds : Holds s = record { ordered = ordered; names = c.stand_in_order.ensures; rows = c.own_rows.ensures; fit = c.requires } in
+    let holds : Holds s = record { ordered = ordered; names = c.names_are_sorted.ensures; rows = c.own_rows.ensures; fit = c.requires } in
     subst (λ n. n ≤ 256) (sym (ap length (c.as_slice-2.ensures ∙ r.made_is))) (few_made c.args.weights.now s r.shares holds r.shown)
 
 pub returns-clause-work : goal.returns-clause-work
@@ -28,7 +28,7 @@ returns-clause-work c =
     let next = c.in_ok-made.next in
     let r = c.in_ok-made.ensures.round in
     let ordered = subst (λ (t : State). are_ordered t.frameworks ≡ true) c.in_ok-made.ensures.state c.as_slice-frameworks.ensures.ordered in
-    let holds : Holds s = record { ordered = ordered; names = c.stand_in_order.ensures; rows = c.own_rows.ensures; fit = c.requires } in
+    let holds : Holds s = record { ordered = ordered; names = c.names_are_sorted.ensures; rows = c.own_rows.ensures; fit = c.requires } in
     let frameworks = c.as_slice-frameworks.ensures.items in
     let sides = c.in_ok-offer_all.ensures ∙ ap (λ os. offers_all os n.sides) c.as_slice.ensures in
     on_ok c.send_offers.result
@@ -48,6 +48,6 @@ returns-clause-round c =
     let made = c.in_ok-made.made in
     let r = c.in_ok-made.ensures.round in
     let ordered = subst (λ (t : State). are_ordered t.frameworks ≡ true) c.in_ok-made.ensures.state c.as_slice-frameworks.ensures.ordered in
-    let holds : Holds s = record { ordered = ordered; names = c.stand_in_order.ensures; rows = c.own_rows.ensures; fit = c.requires } in
+    let holds : Holds s = record { ordered = ordered; names = c.names_are_sorted.ensures; rows = c.own_rows.ensures; fit = c.requires } in
     let sides = c.in_ok-offer_all.ensures ∙ ap (λ os. offers_all os n.sides) c.as_slice.ensures ∙ ap (λ (t : State). offers_all made t.sides) c.in_ok-made.ensures.state ∙ ap (λ os. offers_all os s.sides) r.made_is in
     on_ok c.send_offers.result (λ e. subst (λ (ss : List Side). AreOfRound ws (master_of s) (entered s.sides ss)) (sym sides) (entered_listed ws s r.shares holds r.shown)) c.send_offers.ensures

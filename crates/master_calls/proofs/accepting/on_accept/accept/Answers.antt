@@ -16,7 +16,7 @@ returns-then-passes_limits c =
 pub returns-in-Ok-accept_as : goal.returns-in-Ok-accept_as
 returns-in-Ok-accept_as c =
     rw c.in-Ok-accept_as.ensures
-    (accepts_so c.args.state.now c.args.given c.args.framework c.in-Ok.stream c.args.offers.now c.args.tasks.now c.args.seconds (sym c.admit.ensures ∙ c.in-Ok.is) c.in_ok-good.good c.good_side-side.result c.as_slice-known.ensures.ordered c.stand_in_order.ensures c.good_side-side.ensures c.in_ok-good.ensures.good c.in_ok-good.ensures.rows (sym c.passes_limits.ensures ∙ c.if-passes_limits.false))
+    (accepts_so c.args.state.now c.args.given c.args.framework c.in-Ok.stream c.args.offers.now c.args.tasks.now c.args.seconds (sym c.admit.ensures ∙ c.in-Ok.is) c.in_ok-good.good c.good_side-side.result c.as_slice-known.ensures.ordered c.names_are_sorted.ensures c.good_side-side.ensures c.in_ok-good.ensures.good c.in_ok-good.ensures.rows (sym c.passes_limits.ensures ∙ c.if-passes_limits.false))
 
 pub returns-in_err-good : goal.returns-in_err-good
 returns-in_err-good c =
@@ -29,4 +29,4 @@ returns-in-Err-accept_as c =
 
 pub accept_as-requires-clause-room : goal.accept_as-requires-clause-room
 accept_as-requires-clause-room c =
-    launches_can c.args.state.now c.args.given c.args.framework c.in-Ok.stream c.args.offers.now c.args.tasks.now c.args.seconds (sym c.admit.ensures ∙ c.in-Ok.is) c.in_ok-good.good c.good_side-side.result c.as_slice-known.ensures.ordered c.stand_in_order.ensures c.requires c.good_side-side.ensures c.in_ok-good.ensures.good c.in_ok-good.ensures.rows
+    launches_can c.args.state.now c.args.given c.args.framework c.in-Ok.stream c.args.offers.now c.args.tasks.now c.args.seconds (sym c.admit.ensures ∙ c.in-Ok.is) c.in_ok-good.good c.good_side-side.result c.as_slice-known.ensures.ordered c.names_are_sorted.ensures c.requires c.good_side-side.ensures c.in_ok-good.ensures.good c.in_ok-good.ensures.rows

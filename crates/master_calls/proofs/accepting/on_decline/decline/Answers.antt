@@ -11,8 +11,8 @@ returns-in-Err c = turned_down c.args.state.now c.args.given c.args.framework c.
 pub returns : goal.returns
 returns c =
     rw (c.withdraw_named.ensures, c.in-Ok-refuse_each.ensures)
-    (declines_so c.args.state.now c.args.given c.args.framework c.in-Ok.stream c.args.offers.now c.args.seconds (map holding c.args.state.now.sides) (sym c.admit.ensures ∙ c.in-Ok.is) c.as_slice-known.ensures.ordered c.stand_in_order.ensures refl)
+    (declines_so c.args.state.now c.args.given c.args.framework c.in-Ok.stream c.args.offers.now c.args.seconds (map holding c.args.state.now.sides) (sym c.admit.ensures ∙ c.in-Ok.is) c.as_slice-known.ensures.ordered c.names_are_sorted.ensures refl)
 
 pub returns-in-Err-refuse_each : goal.returns-in-Err-refuse_each
 returns-in-Err-refuse_each c =
-    (declines_so c.args.state.now c.args.given c.args.framework c.in-Ok.stream c.args.offers.now c.args.seconds (map holding c.args.state.now.sides) (sym c.admit.ensures ∙ c.in-Ok.is) c.as_slice-known.ensures.ordered c.stand_in_order.ensures refl).0
+    (declines_so c.args.state.now c.args.given c.args.framework c.in-Ok.stream c.args.offers.now c.args.seconds (map holding c.args.state.now.sides) (sym c.admit.ensures ∙ c.in-Ok.is) c.as_slice-known.ensures.ordered c.names_are_sorted.ensures refl).0

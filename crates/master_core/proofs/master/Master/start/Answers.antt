@@ -14,7 +14,7 @@ invariant_of-master c = rw (c.take_outs-outs.ensures.state, c.in_ok-state.ensure
 
 pub returns-clause-outs : goal.returns-clause-outs
 returns-clause-outs c =
-    let ordered = rw c.in_ok-state.ensures at c.stand_in_order.ensures in
+    let ordered = rw c.in_ok-state.ensures at c.names_are_sorted.ensures in
     rw (c.take_outs-outs.ensures.outs, c.in_ok-send_again.ensures, c.in_ok-state.ensures) (ap with_mails (greets c.args.run c.args.config.now ordered))
 
 pub returns-in_err-send_again-clause-refused : goal.returns-in_err-send_again-clause-refused

@@ -4,7 +4,7 @@ use Rattle.names_core.specs.Ids.{Numbered}
 use Rattle.offer_book.specs.Lists.{same_id}
 use Rattle.offer_book.specs.Names.{keys_under, keys_within, keys_named}
 use Rattle.offer_book.proofs.Naming.{name_changed}
-use Rattle.offer_book.proofs.names.Names.take_key.Goals as goal
+use Rattle.offer_book.proofs.names.NameIndex.take_key.Goals as goal
 
 pub returns-in-Some : goal.returns-in-Some
 returns-in-Some c =

@@ -1,7 +1,7 @@
 use Rattle.std.proofs.Common.{Some, IsSome, refl, subst, ap, ◌∙◌}
 use Rattle.offer_book.specs.Names.{keys_within}
 use Rattle.offer_book.proofs.Naming.{names_same}
-use Rattle.offer_book.proofs.names.Names.drop_text.Goals as goal
+use Rattle.offer_book.proofs.names.NameIndex.drop_text.Goals as goal
 
 pub returns-in-Some : goal.returns-in-Some
 returns-in-Some c =

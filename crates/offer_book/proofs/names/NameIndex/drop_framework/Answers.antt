@@ -1,6 +1,6 @@
 use Rattle.std.proofs.Common.{None, sym}
 use Rattle.offer_book.proofs.Naming.{names_same}
-use Rattle.offer_book.proofs.names.Names.drop_framework.Goals as goal
+use Rattle.offer_book.proofs.names.NameIndex.drop_framework.Goals as goal
 
 pub returns-then-is_unused : goal.returns-then-is_unused
 returns-then-is_unused c =

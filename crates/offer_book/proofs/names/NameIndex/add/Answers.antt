@@ -4,7 +4,7 @@ use Rattle.std.specs.BTreeMap.{get, is_at}
 use Rattle.names_core.specs.Ids.{Numbered}
 use Rattle.offer_book.specs.Names.{id_cmp, keys_under, keys_within, keys_named}
 use Rattle.offer_book.proofs.Naming.{name_changed, names_same, on_ok_map, on_err_map}
-use Rattle.offer_book.proofs.names.Names.add.Goals as goal
+use Rattle.offer_book.proofs.names.NameIndex.add.Goals as goal
 
 pub returns-in-Some-clause-ok : goal.returns-in-Some-clause-ok
 returns-in-Some-clause-ok c =
